@@ -1,0 +1,6 @@
+// The table file.
+
+// The largest count of situations.
+pub fn most_situations() -> usize {
+    96
+}

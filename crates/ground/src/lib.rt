@@ -1,0 +1,9 @@
+// Small helpers that every crate shares.
+ghost use mathlib.Core.Path.{_≡_};
+
+// A byte as an index.
+pub fn wide(x: u8) -> usize
+    ensures { λ r. ⌜ r ≡ x ⌝ }
+{
+    x as usize
+}

@@ -1,0 +1,269 @@
+-- The builder's list is the situation of document 01. Assumes nothing.
+use mathlib.Core.Path.{_≡_, refl, sym, ap, _∙_, subst}
+use mathlib.Core.Logic.{_⊎_, inl, inr}
+use mathlib.Core.Bool.{Bool, true, false, cond}
+use mathlib.Core.List.{List, [], _∷_, _++_, append-nil, append-assoc, List·Memᴰ, List·Memᴰ·head, List·Memᴰ·tail, List·Memᴰ·cases-cons, List·Memᴰ·append-cases, List·Memᴰ·eq-of-singleton, Memᴰ·append-left, Memᴰ·append-right, Memᴰ·cast}
+use Prim.Native.Nat.{ℕ, zero, suc}
+use native.Mathlib.Omega.{arith}
+use lib.Seq.{append-snoc}
+use lib.ListN.{length}
+use Rattle.net.specs.Rec.{Rec, range, mask, fork, tag, end, Net, rec}
+use Rattle.paths.specs.Ways.{Move, Way, eaten, Admissible, Earlier, empty-handed, held}
+use Rattle.ground.specs.Lists.{each}
+use Rattle.paths.specs.Search.{Thread, ons, add, firsts}
+use Rattle.paths.specs.Situation.{every, threads}
+use Rattle.paths.specs.Registers.{Tags, stands, standing, begin, after}
+use Rattle.paths.specs.Meaning.{Stands, Sorted, Once, Situation, with-tags, waiting}
+use Rattle.paths.proofs.Member.{mem-or-not, mem-ons, ons-mem, ons-append, in-left, in-right}
+use Rattle.paths.proofs.Closure.{add-known, add-new, firsts-in, firsts-has}
+use Rattle.paths.proofs.Heart.{heart}
+use Rattle.paths.proofs.Faithful.{onto, Trail, Reached, every-sound}
+use Rattle.paths.proofs.Complete.{every-complete}
+use Rattle.paths.proofs.Same.{lifts}
+use Rattle.paths.proofs.Bridge.{at-place, after-paths}
+use Rattle.paths.proofs.Order.{Ordered, Bef, every-ordered, before-waiting, sort}
+
+-- ---- a list in which every record appears once, and by the first thread of another list
+
+module _ {B : Type 0} (R : Thread B → Thread B → Type 0) where
+  -- t is the first of l on its record
+  abbrev First : List (Thread B) → Thread B → Type 0
+  First l t = (u : Thread B) → List·Memᴰ u l → u .on ≡ t .on → (u ≡ t) ⊎ R t u
+
+  ordered-left : (l k : List (Thread B)) → Ordered R (l ++ k) → Ordered R l
+  ordered-left [] k o = tt
+  ordered-left (s ∷ l) k o = (λ t m. o .0 t (Memᴰ·append-left k m), ordered-left l k (o .1))
+
+  -- whatever stands before in order
+  ordered-cross : (l k : List (Thread B)) → Ordered R (l ++ k) → (s t : Thread B) → List·Memᴰ s l → List·Memᴰ t k → R s t
+  ordered-cross [] k o s t m n = absurd (elim m [ ])
+  ordered-cross (x ∷ l) k o s t m n = by (λ j. ordered-cross l k (o .1) s t j n) (List·Memᴰ·cases-cons m)
+    where
+      by : (List·Memᴰ s l → R s t) → (s ≡ x) ⊎ List·Memᴰ s l → R s t
+      by ih (inl e) = rw e (o .0 t (Memᴰ·append-right l n))
+      by ih (inr j) = ih j
+
+  ordered-skip : (l : List (Thread B)) (s : Thread B) (k : List (Thread B)) → Ordered R (l ++ s ∷ k) → Ordered R (l ++ k)
+  ordered-skip [] s k o = o .1
+  ordered-skip (x ∷ l) s k o = (λ t m. o .0 t (more t (List·Memᴰ·append-cases l m)), ordered-skip l s k (o .1))
+    where
+      more : (t : Thread B) → List·Memᴰ t l ⊎ List·Memᴰ t k → List·Memᴰ t (l ++ s ∷ k)
+      more t (inl m) = Memᴰ·append-left (s ∷ k) m
+      more t (inr m) = Memᴰ·append-right l (List·Memᴰ·tail m)
+
+  firsts-ordered : (l O : List (Thread B)) → Ordered R (O ++ l) → Ordered R (firsts O l)
+  firsts-ordered [] O o = rw append-nil at o
+  firsts-ordered (s ∷ l) O o = firsts-ordered l (add O s) (by (mem-or-not (s .on) (ons O)))
+    where
+      by : List·Memᴰ (s .on) (ons O) ⊎ (¬ List·Memᴰ (s .on) (ons O)) → Ordered R (add O s ++ l)
+      by (inl m) = rw (add-known O s m) (ordered-skip O s l o)
+      by (inr m) = rw (add-new O s m, append-snoc) o
+
+  -- what is found is of O, or on a record that O has not
+  firsts-new : (l O : List (Thread B)) {t : Thread B} → List·Memᴰ t (firsts O l) → List·Memᴰ t O ⊎ (¬ List·Memᴰ (t .on) (ons O))
+  firsts-new [] O m = inl m
+  firsts-new (s ∷ l) O {t} m = by (mem-or-not (s .on) (ons O)) (firsts-new l (add O s) m)
+    where
+      snoc : (¬ List·Memᴰ (s .on) (ons O)) → List·Memᴰ t O ⊎ List·Memᴰ t (s ∷ []) → List·Memᴰ t O ⊎ (¬ List·Memᴰ (t .on) (ons O))
+      snoc h (inl n) = inl n
+      snoc h (inr n) = inr (λ j. h (rw (ap (λ v. v .on) (List·Memᴰ·eq-of-singleton n)) at j))
+
+      by : List·Memᴰ (s .on) (ons O) ⊎ (¬ List·Memᴰ (s .on) (ons O)) → List·Memᴰ t (add O s) ⊎ (¬ List·Memᴰ (t .on) (ons (add O s))) → List·Memᴰ t O ⊎ (¬ List·Memᴰ (t .on) (ons O))
+      by (inl h) (inl n) = inl (rw (add-known O s h) at n)
+      by (inl h) (inr n) = inr (rw (add-known O s h) at n)
+      by (inr h) (inl n) = snoc h (List·Memᴰ·append-cases O (rw (add-new O s h) at n))
+      by (inr h) (inr n) = inr (λ j. n (rw (add-new O s h) (in-left O (s ∷ []) j)))
+
+  -- of what is found each is the first, in O and l together
+  firsts-first : (l O : List (Thread B)) → Ordered R (O ++ l) → ((t : Thread B) → List·Memᴰ t O → First O t) → (t : Thread B) → List·Memᴰ t (firsts O l) → First (O ++ l) t
+  firsts-first [] O o h t m = rw append-nil (h t m)
+  firsts-first (s ∷ l) O o h t m = by (λ Q p g n. firsts-first l Q p g t n) (mem-or-not (s .on) (ons O))
+    where
+      -- s is known already
+      again : List·Memᴰ (s .on) (ons O) → First (O ++ l) t → List·Memᴰ t O ⊎ (¬ List·Memᴰ (t .on) (ons O)) → First (O ++ s ∷ l) t
+      again k f w u n e = split (List·Memᴰ·append-cases O n)
+        where
+          here : u ≡ s → List·Memᴰ t O ⊎ (¬ List·Memᴰ (t .on) (ons O)) → (u ≡ t) ⊎ R t u
+          here p (inl j) = inr (rw p (ordered-cross O (s ∷ l) o t s j (List·Memᴰ·head refl)))
+          here p (inr j) = absurd (j (Memᴰ·cast (sym e ∙ ap (λ v. v .on) p) k))
+
+          tail : (u ≡ s) ⊎ List·Memᴰ u l → (u ≡ t) ⊎ R t u
+          tail (inl p) = here p w
+          tail (inr j) = f u (Memᴰ·append-right O j) e
+
+          split : List·Memᴰ u O ⊎ List·Memᴰ u (s ∷ l) → (u ≡ t) ⊎ R t u
+          split (inl j) = f u (Memᴰ·append-left l j) e
+          split (inr j) = tail (List·Memᴰ·cases-cons j)
+
+      -- s is new
+      ends : (¬ List·Memᴰ (s .on) (ons O)) → (v : Thread B) → List·Memᴰ v (O ++ (s ∷ [])) → First (O ++ (s ∷ [])) v
+      ends k v n u j e = two (List·Memᴰ·append-cases O n) (List·Memᴰ·append-cases O j)
+        where
+          two : List·Memᴰ v O ⊎ List·Memᴰ v (s ∷ []) → List·Memᴰ u O ⊎ List·Memᴰ u (s ∷ []) → (u ≡ v) ⊎ R v u
+          two (inl a) (inl b) = h v a u b e
+          two (inl a) (inr b) = absurd (k (Memᴰ·cast (sym (ap (λ x. x .on) (List·Memᴰ·eq-of-singleton b)) ∙ e) (mem-ons a)))
+          two (inr a) (inl b) = absurd (k (Memᴰ·cast (sym (ap (λ x. x .on) (List·Memᴰ·eq-of-singleton a)) ∙ sym e) (mem-ons b)))
+          two (inr a) (inr b) = inl (List·Memᴰ·eq-of-singleton b ∙ sym (List·Memᴰ·eq-of-singleton a))
+
+      by : ((Q : List (Thread B)) → Ordered R (Q ++ l) → ((v : Thread B) → List·Memᴰ v Q → First Q v) → List·Memᴰ t (firsts Q l) → First (Q ++ l) t)
+          → List·Memᴰ (s .on) (ons O) ⊎ (¬ List·Memᴰ (s .on) (ons O)) → First (O ++ s ∷ l) t
+      by ih (inl k) =
+          let m′ : List·Memᴰ t (firsts O l) = subst (λ v. List·Memᴰ t (firsts v l)) (add-known O s k) m in
+          again k (ih O (ordered-skip O s l o) h m′) (firsts-new l O m′)
+      by ih (inr k) =
+          let m′ : List·Memᴰ t (firsts (O ++ (s ∷ [])) l) = subst (λ v. List·Memᴰ t (firsts v l)) (add-new O s k) m in
+          subst (λ v. First v t) (append-snoc O s l) (ih (O ++ (s ∷ [])) (rw append-snoc o) (ends k) m′)
+
+once-snoc : (l : List ℕ) (r : ℕ) → Once l → (¬ List·Memᴰ r l) → Once (l ++ (r ∷ []))
+once-snoc [] r o h = (λ m. elim m [ ], tt)
+once-snoc (x ∷ l) r o h = (λ m. by (List·Memᴰ·append-cases l m), once-snoc l r (o .1) (λ m. h (List·Memᴰ·tail m)))
+  where
+    last : (x ≡ r) ⊎ List·Memᴰ x [] → ⊥
+    last (inl e) = h (List·Memᴰ·head (sym e))
+    last (inr m) = elim m [ ]
+
+    by : List·Memᴰ x l ⊎ List·Memᴰ x (r ∷ []) → ⊥
+    by (inl m) = o .0 m
+    by (inr m) = last (List·Memᴰ·cases-cons m)
+
+firsts-once : {B : Type 0} (l O : List (Thread B)) → Once (ons O) → Once (ons (firsts O l))
+firsts-once [] O o = o
+firsts-once (s ∷ l) O o = firsts-once l (add O s) (by (mem-or-not (s .on) (ons O)))
+  where
+    by : List·Memᴰ (s .on) (ons O) ⊎ (¬ List·Memᴰ (s .on) (ons O)) → Once (ons (add O s))
+    by (inl m) = rw (add-known O s m) o
+    by (inr m) = rw (add-new O s m, ons-append O (s ∷ [])) (once-snoc (ons O) (s .on) o m)
+
+-- ---- of these, the records that wait
+
+module _ {B : Type 0} (A : Net) where
+  standing-in : (l : List (Thread B)) {t : Thread B} → List·Memᴰ t (standing A l) → List·Memᴰ t l × (stands (rec A (t .on)) ≡ true)
+  standing-in [] m = absurd (elim m [ ])
+  standing-in (s ∷ l) {t} m = by (λ n. standing-in l n) (stands (rec A (s .on))) refl m
+    where
+      cons : (List·Memᴰ t (standing A l) → List·Memᴰ t l × (stands (rec A (t .on)) ≡ true)) → stands (rec A (s .on)) ≡ true → (t ≡ s) ⊎ List·Memᴰ t (standing A l)
+          → List·Memᴰ t (s ∷ l) × (stands (rec A (t .on)) ≡ true)
+      cons ih e (inl p) = (List·Memᴰ·head p, ap (λ v. stands (rec A (v .on))) p ∙ e)
+      cons ih e (inr n) = let r = ih n in (List·Memᴰ·tail (r .0), r .1)
+
+      by : (List·Memᴰ t (standing A l) → List·Memᴰ t l × (stands (rec A (t .on)) ≡ true)) → (c : Bool) → stands (rec A (s .on)) ≡ c
+          → List·Memᴰ t (cond c (s ∷ standing A l) (standing A l)) → List·Memᴰ t (s ∷ l) × (stands (rec A (t .on)) ≡ true)
+      by ih true e n = cons ih e (List·Memᴰ·cases-cons n)
+      by ih false e n = let r = ih n in (List·Memᴰ·tail (r .0), r .1)
+
+  standing-has : {l : List (Thread B)} {t : Thread B} → List·Memᴰ t l → stands (rec A (t .on)) ≡ true → List·Memᴰ t (standing A l)
+  standing-has {t = t} (List·Memᴰ·head {x = x} {xs = xs} p) e = rw (sym (ap (λ v. stands (rec A (v .on))) p) ∙ e) (List·Memᴰ·head p)
+  standing-has {t = t} (List·Memᴰ·tail {x = x} {xs = xs} m) e = by (stands (rec A (x .on))) (standing-has m e)
+    where
+      by : (c : Bool) → List·Memᴰ t (standing A xs) → List·Memᴰ t (cond c (x ∷ standing A xs) (standing A xs))
+      by true n = List·Memᴰ·tail n
+      by false n = n
+
+  standing-ordered : (R : Thread B → Thread B → Type 0) (l : List (Thread B)) → Ordered R l → Ordered R (standing A l)
+  standing-ordered R [] o = tt
+  standing-ordered R (s ∷ l) o = by (standing-ordered R l (o .1)) (stands (rec A (s .on)))
+    where
+      by : Ordered R (standing A l) → (c : Bool) → Ordered R (cond c (s ∷ standing A l) (standing A l))
+      by ih true = (λ t m. o .0 t (standing-in l m .0), ih)
+      by ih false = ih
+
+  standing-once : (l : List (Thread B)) → Once (ons l) → Once (ons (standing A l))
+  standing-once [] o = tt
+  standing-once (s ∷ l) o = by (standing-once l (o .1)) (stands (rec A (s .on)))
+    where
+      fewer : List·Memᴰ (s .on) (ons (standing A l)) → List·Memᴰ (s .on) (ons l)
+      fewer m = let c = ons-mem (standing A l) m in rw (c .2) (mem-ons (standing-in l (c .1) .0))
+
+      by : Once (ons (standing A l)) → (c : Bool) → Once (ons (cond c (s ∷ standing A l) (standing A l)))
+      by ih true = (λ m. o .0 (fewer m), ih)
+      by ih false = ih
+
+-- no turn leads on from a record that waits
+no-turn : (k : Rec) → stands k ≡ true → ¬ (sort k ≡ 1)
+unfolding sort
+no-turn (range lo hi n) e p = omega arith
+no-turn (mask bits n) e p = omega arith
+no-turn (fork x y) e p = let z : _≡_ {A = ℕ} 0 1 = cc in omega arith
+no-turn (tag t n) e p = let z : _≡_ {A = ℕ} 0 1 = cc in omega arith
+no-turn (end a) e p = omega arith
+
+-- ---- THE SITUATION
+
+module _ (A : Net) (w : List ℕ) where
+  abbrev start : Trail
+  start = record { on = 0; had = [] }
+
+  abbrev all : List Trail
+  all = every onto A w start
+
+  trail : (t : Trail) → List·Memᴰ t all → stands (rec A (t .on)) ≡ true → Stands A w (t .had) (t .on)
+  trail t m e = of (every-sound A w start t m)
+    where
+      of : Reached A [] w start t → Stands A w (t .had) (t .on)
+      of d = rw (d .gathered) (record { path = d .path; admissible = d .admissible; whole = d .consumed; waits = e })
+
+  listed : (ms : List Move) (r : ℕ) → Stands A w ms r → List·Memᴰ (record { on = r; had = ms }) all
+  listed ms r c = every-complete A w (c .path) [] (c .admissible) (c .whole)
+
+  order : (s t : Trail) → Stands A w (s .had) (s .on) → Stands A w (t .had) (t .on) → Bef s t → Earlier (s .had) (t .had)
+  order s t c d b = before-waiting A (c .path) (no-turn (rec A (s .on)) (c .waits)) (d .path) b
+
+  sorted-of : (l : List Trail) → Ordered Bef l → ((t : Trail) → List·Memᴰ t l → Stands A w (t .had) (t .on)) → Sorted l
+  sorted-of [] o h = tt
+  sorted-of (s ∷ l) o h = (λ t m. order s t (h s (List·Memᴰ·head refl)) (h t (List·Memᴰ·tail m)) (o .0 t m), sorted-of l (o .1) (λ t m. h t (List·Memᴰ·tail m)))
+
+  kept : List Trail
+  kept = standing A (firsts [] all)
+
+  kept-in : (t : Trail) → List·Memᴰ t kept → List·Memᴰ t all × (stands (rec A (t .on)) ≡ true)
+  unfolding kept
+  kept-in t m = let c = standing-in A (firsts [] all) m in (of (firsts-in all [] (c .0)), c .1)
+    where
+      of : List·Memᴰ t [] ⊎ List·Memᴰ t all → List·Memᴰ t all
+      of (inl n) = absurd (elim n [ ])
+      of (inr n) = n
+
+  kept-sound : (t : Trail) → List·Memᴰ t kept → Stands A w (t .had) (t .on)
+  kept-sound t m = let c = kept-in t m in trail t (c .0) (c .1)
+
+  pub kept-right : Situation A w (standing A (firsts [] all))
+  unfolding kept
+  kept-right =
+      record {
+        sound = kept-sound;
+        complete = λ ms r c. present ms r c (ons-mem (firsts [] all) (firsts-has all [] r (mem-ons (listed ms r c))));
+        once = standing-once A (firsts [] all) (firsts-once all [] tt);
+        earliest = λ t m ms c. by t m ms c (firsts-first Bef all [] (every-ordered A w start) (λ v n. absurd (elim n [ ])) t (standing-in A (firsts [] all) m .0)
+            (record { on = t .on; had = ms }) (listed ms (t .on) c) refl);
+        sorted = sorted-of kept (standing-ordered A Bef (firsts [] all) (firsts-ordered Bef all [] (every-ordered A w start))) kept-sound;
+      }
+    where
+      present : (ms : List Move) (r : ℕ) → Stands A w ms r → (t : Trail) × List·Memᴰ t (firsts [] all) × (r ≡ t .on) → List·Memᴰ r (ons kept)
+      present ms r c t = rw (t .2) (mem-ons (standing-has A (t .1) (ap (λ v. stands (rec A v)) (sym (t .2)) ∙ c .waits)))
+
+      by : (t : Trail) → List·Memᴰ t kept → (ms : List Move) → Stands A w ms (t .on) → (_≡_ {A = Trail} (record { on = t .on; had = ms }) t) ⊎ Bef t (record { on = t .on; had = ms })
+          → (ms ≡ t .had) ⊎ Earlier (t .had) ms
+      by t m ms c (inl e) = inl (ap (λ v. v .had) e)
+      by t m ms c (inr b) = inr (order t (record { on = t .on; had = ms }) (kept-sound t m) c b)
+
+  -- what the builder keeps after w is the situation of document 01
+  pub threads-right : Situation A w (standing A (threads onto A w (start ∷ [])))
+  threads-right = subst (λ l. Situation A w (standing A l)) (sym (heart onto A w (start ∷ []) ∙ ap (λ l. firsts [] l) (append-nil all))) kept-right
+
+-- ---- and, by computation, the list that the builder keeps
+
+with-tags-lifts : (l : List Trail) → with-tags l ≡ lifts (λ h. h .tags) (lifts (λ p. held p empty-handed) l)
+with-tags-lifts [] = refl
+with-tags-lifts (s ∷ l) = ap (λ r. record { on = s .on; had = held (s .had) empty-handed .tags } ∷ r) (with-tags-lifts l)
+
+tags-back : (p : ℕ) (l : List (Thread Tags)) → lifts (λ h. h .tags) (lifts (at-place p) l) ≡ l
+tags-back p [] = refl
+tags-back p (s ∷ l) = ap (λ r. s ∷ r) (tags-back p l)
+
+pub waiting-after : (A : Net) (w : List ℕ) → waiting A w ≡ after A 0 (begin A) w
+unfolding waiting
+waiting-after A w =
+    with-tags-lifts (standing A (firsts [] (all A w)))
+    ∙ ap (λ l. lifts (λ h. h .tags) (lifts (λ p. held p empty-handed) (standing A l))) (sym (heart onto A w (start A w ∷ []) ∙ ap (λ l. firsts [] l) (append-nil (all A w))))
+    ∙ ap (λ l. lifts (λ h. h .tags) l) (sym (after-paths A w))
+    ∙ tags-back (length w) (after A 0 (begin A) w)

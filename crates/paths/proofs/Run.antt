@@ -1,0 +1,102 @@
+-- A run over registers shows, after any input, the places of the builder's list. Assumes nothing.
+use mathlib.Core.Path.{_≡_, refl, sym, ap, _∙_}
+use mathlib.Core.Logic.{_⊎_, inl, inr}
+use mathlib.Core.Bool.{Bool, true, false, cond}
+use mathlib.Core.List.{List, [], _∷_, _++_, map, foldl, List·Memᴰ}
+use Prim.Native.Nat.{ℕ, zero, suc, _+_, _<_}
+use native.Mathlib.Nat.{lt-irrefl, le-of-suc-le-suc, not-suc-le-zero}
+use native.Mathlib.Omega.{arith}
+use lib.Dec.{T, ltb, ltb→lt, lt→ltb}
+use lib.ListN.{length, getD, length-map}
+use Rattle.net.specs.Rec.{Net}
+use Rattle.paths.specs.Search.{Thread}
+use Rattle.paths.specs.Registers.{Tags, Key, held-by, index, registers, rename, number, step, begin, after, situation, next, origins, fetch, moved, State, feed, run, ready, shown}
+use Rattle.paths.proofs.Member.{Bool-cases, T-of, of-T}
+use Rattle.paths.proofs.Numbers.{rename-rename, rename-same, rename-self, register-at}
+use Rattle.paths.specs.Situation.{first-end, answer}
+use Rattle.paths.proofs.Same.{lift-end}
+use Rattle.paths.proofs.Bridge.{at-place, answer-after}
+use Rattle.paths.proofs.Next.{step-rename, number-below, as-many-registers, situations}
+
+getD-map-lt : {A B : Type 0} (f : A → B) (l : List A) (i : ℕ) (d : A) (e : B) → i < length l → getD (map f l) i e ≡ f (getD l i d)
+getD-map-lt f [] i d e h = absurd (not-suc-le-zero h)
+getD-map-lt f (x ∷ l) zero d e h = refl
+getD-map-lt f (x ∷ l) (suc i) d e h = getD-map-lt f l i d e (le-of-suc-le-suc h)
+
+-- the numbers, and the place of each, give the list back
+pub decode : (l : List (Thread Tags)) → rename (λ t i. getD (map (λ k. k .1) (registers l)) i 0) (number l) ≡ l
+unfolding number
+decode l =
+    rename-rename (λ t i. getD (map (λ k. k .1) (registers l)) i 0) (λ t p. index (t, p) (registers l)) l
+    ∙ rename-same (λ t p. getD (map (λ k. k .1) (registers l)) (index (t, p) (registers l)) 0) (λ t p. p) l
+    (λ k m. let r = register-at l k m in getD-map-lt (λ k. k .1) (registers l) (index k (registers l)) (0, 0) 0 (r .0) ∙ ap (λ v. v .1) (r .1))
+    ∙ rename-self l
+
+fetch-new : (now count : ℕ) (bank : List ℕ) → fetch now count bank count ≡ now
+fetch-new now count bank = by (Bool-cases (ltb count count))
+  where
+    by : (ltb count count ≡ true) ⊎ (ltb count count ≡ false) → fetch now count bank count ≡ now
+    by (inl e) = absurd (lt-irrefl count (ltb→lt count count (T-of e)))
+    by (inr e) = rw e
+
+fetch-old : (now count : ℕ) (bank : List ℕ) (i : ℕ) → i < count → fetch now count bank i ≡ getD bank i 0
+fetch-old now count bank i h = rw (of-T (ltb i count) (lt→ltb i count h))
+
+-- the registers of s are below their count
+abbrev Sound : State → Type 0
+Sound s = (k : Key) → List·Memᴰ k (held-by (s .sit)) → k .1 < length (registers (s .sit))
+
+sound-number : (l : List (Thread Tags)) (k : Key) → List·Memᴰ k (held-by (number l)) → k .1 < length (registers (number l))
+sound-number l k m = rw (as-many-registers l) (number-below l k m)
+
+pub feed-shown : (A : Net) (now b : ℕ) (s : State) → Sound s → shown (feed A now b s) ≡ step A now b (shown s)
+unfolding feed next origins
+feed-shown A now b s h =
+    rename-same (λ t r. getD (map f os) r 0) (λ t r. f (getD os r 0)) (number X)
+    (λ k m. getD-map-lt f os (k .1) 0 0 (rw (length-map (registers X) (λ k. k .1)) (number-below X k m)))
+    ∙ sym (rename-rename (λ t. f) (λ t r. getD os r 0) (number X))
+    ∙ ap (λ l. rename (λ t. f) l) (decode X)
+    ∙ sym (step-rename (λ t. f) R now (λ t. fetch-new now R (s .bank)) A b (s .sit))
+    ∙ ap (λ l. step A now b l) (rename-same (λ t. f) (λ t i. getD (s .bank) i 0) (s .sit) (λ k m. fetch-old now R (s .bank) (k .1) (h k m)))
+  where
+    R : ℕ
+    R = length (registers (s .sit))
+
+    X : List (Thread Tags)
+    X = step A R b (s .sit)
+
+    os : List ℕ
+    os = map (λ k. k .1) (registers X)
+
+    f : ℕ → ℕ
+    f = fetch now R (s .bank)
+
+feed-sound : (A : Net) (now b : ℕ) (s : State) → Sound (feed A now b s)
+unfolding feed next
+feed-sound A now b s = sound-number (step A (length (registers (s .sit))) b (s .sit))
+
+run-shown : (A : Net) (p : ℕ) (s : State) (w : List ℕ) → Sound s → shown (run A p s w) ≡ after A p (shown s) w
+unfolding run after
+run-shown A p s [] h = refl
+run-shown A p s (b ∷ w) h =
+    run-shown A (suc p) (feed A (suc p) b s) w (feed-sound A (suc p) b s)
+    ∙ ap (λ l. after A (suc p) l w) (feed-shown A (suc p) b s h)
+
+-- THE RUN: what it shows are the places that the builder's list holds
+pub run-right : (A : Net) (w : List ℕ) → shown (run A 0 (ready A) w) ≡ after A 0 (begin A) w
+unfolding ready
+run-right A w = run-shown A 0 (ready A) w (sound-number (begin A)) ∙ ap (λ l. after A 0 l w) (decode (begin A))
+
+run-sit : (A : Net) (p : ℕ) (s : State) (w : List ℕ) → run A p s w .sit ≡ foldl (λ s b. next A b s) (s .sit) w
+unfolding run feed
+run-sit A p s [] = refl
+run-sit A p s (b ∷ w) = run-sit A (suc p) (feed A (suc p) b s) w
+
+-- and it goes through the situations of document 01
+pub run-situation : (A : Net) (w : List ℕ) → run A 0 (ready A) w .sit ≡ situation A w
+unfolding ready situation after
+run-situation A w = run-sit A 0 (ready A) w ∙ sym (situations A w)
+
+-- THE WHOLE: at the end the first END of the situation, with the places that its registers hold, is the answer
+pub run-answer : (A : Net) (w : List ℕ) → answer A w ≡ lift-end (at-place (length w)) (first-end A (shown (run A 0 (ready A) w)))
+run-answer A w = answer-after A w ∙ ap (λ l. lift-end (at-place (length w)) (first-end A l)) (sym (run-right A w))

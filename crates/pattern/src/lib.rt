@@ -1,0 +1,6 @@
+// Pattern text to automaton.
+
+// The longest pattern.
+pub fn longest() -> usize {
+    255
+}
