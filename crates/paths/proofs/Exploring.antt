@@ -2,21 +2,21 @@
 use mathlib.Core.Path.{_≡_, refl, sym, ap, _∙_, subst}
 use mathlib.Core.Logic.{_⊎_, inl, inr}
 use mathlib.Core.Bool.{Bool, true, false, _||_}
-use mathlib.Core.List.{List, [], _∷_, _++_, map, foldl, foldl-append, append-nil, append-assoc, List·Memᴰ, List·Memᴰ·head, List·Memᴰ·tail, List·Memᴰ·cases-cons, Memᴰ·append-left, Memᴰ·append-right, Memᴰ·cast}
-use Prim.Native.Nat.{ℕ, zero, suc, _+_, _≤_, _<_}
+use mathlib.Core.List.{List, [], _∷_, _++_, map, foldl, foldl-append, append-nil, append-assoc, List·Memᴰ, List·Memᴰ·head, List·Memᴰ·tail, List·Memᴰ·cases-cons, List·Memᴰ·append-cases, List·Memᴰ·eq-of-singleton, Memᴰ·append-left, Memᴰ·append-right, Memᴰ·cast, Memᴰ·of-map}
+use Prim.Native.Nat.{ℕ, zero, suc, _+_, _-_, _≤_, _<_}
 use native.Mathlib.Nat.{zero-add}
 use native.Mathlib.Numerals.{add-one}
 use native.Mathlib.Omega.{arith}
 use native.Mathlib.Decide.{decLe}
 use lib.ListN.{length, take, drop, take-append-drop, drop-of-length-le}
-use lib.Seq.{take-add, take-append-le, take-all}
+use lib.Seq.{take-add, take-append-le, take-all, append-snoc}
 use Rattle.ground.specs.Lists.{each}
 use Rattle.paths.specs.Search.{choose}
 use Rattle.paths.specs.Numbering.{words, upto, among, put, once, numbered, nexts, explored}
 use Rattle.paths.proofs.Member.{Bool-cases, choose-true, choose-false}
 pub use Rattle.paths.proofs.Common.{Prefix}
-use Rattle.paths.proofs.Common.{each-append, map-append, ≼-trans, take-≼, each-≼, take-prefix}
-use Rattle.paths.proofs.Firsts.{Keyed, gather-append, gather-≼, gather-mono, optimal-from}
+use Rattle.paths.proofs.Common.{each-append, map-append, map-has, each-cases, each-has, ≼-self, ≼-trans, take-≼, each-≼, map-≼, take-prefix}
+use Rattle.paths.proofs.Firsts.{Keyed, gather-append, gather-≼, gather-mono, gather-has, gather-in, gather-sole, Sole, optimal-from}
 
 -- ---- inputs
 
@@ -131,3 +131,96 @@ module _ {S : Type 0} (eq : S → S → Bool) (eq-right : (s t : S) → (eq s t 
       where
         F : List S
         F = explored eq B next (sit []) i
+
+    -- ---- longer inputs, and more gone through, only add
+
+    upto-≼ : (n m : ℕ) → Prefix (upto B n) (upto B (m + n))
+    unfolding upto
+    upto-≼ n zero = let e : n ≡ zero + n = omega arith in subst (λ v. Prefix (upto B n) (upto B v)) e (≼-self (upto B n))
+    upto-≼ n (suc m) =
+        let e : suc (m + n) ≡ suc m + n = omega arith in
+        subst (λ v. Prefix (upto B n) (upto B v)) e (≼-trans (upto-≼ n m) (record { more = words B (suc (m + n)); whole = refl }))
+
+    pub numbered-≼ : (n m : ℕ) → n ≤ m → Prefix (numbered eq B sit n) (numbered eq B sit m)
+    unfolding numbered
+    numbered-≼ n m h =
+        let e : m - n + n ≡ m = omega arith in
+        gather-mono by-state [] (map-≼ sit (subst (λ v. Prefix (upto B n) (upto B v)) e (upto-≼ n (m - n))))
+
+    explored-more : (n m : ℕ) → Prefix (explored eq B next (sit []) n) (explored eq B next (sit []) (m + n))
+    unfolding explored
+    explored-more n zero = let e : n ≡ zero + n = omega arith in subst (λ v. Prefix (explored eq B next (sit []) n) (explored eq B next (sit []) v)) e (≼-self (explored eq B next (sit []) n))
+    explored-more n (suc m) =
+        let e : suc (m + n) ≡ suc m + n = omega arith in
+        let F = explored eq B next (sit []) (m + n) in
+        subst (λ v. Prefix (explored eq B next (sit []) n) (explored eq B next (sit []) v)) e
+        (≼-trans (explored-more n m) (gather-≼ by-state (each g (take 1 (drop (m + n) F))) F))
+
+    pub explored-≼ : (n m : ℕ) → n ≤ m → Prefix (explored eq B next (sit []) n) (explored eq B next (sit []) m)
+    explored-≼ n m h =
+        let e : m - n + n ≡ m = omega arith in
+        subst (λ v. Prefix (explored eq B next (sit []) n) (explored eq B next (sit []) v)) e (explored-more n (m - n))
+
+    -- once all states found have been gone through, a byte leads from each to one of them
+    pub explored-next : (i : ℕ) → length (explored eq B next (sit []) i) ≤ i → {s : S} {b : ℕ} → List·Memᴰ s (explored eq B next (sit []) i) → List·Memᴰ b B
+        → List·Memᴰ (next b s) (explored eq B next (sit []) i)
+    explored-next i h {s} {b} m n =
+        subst (λ l. List·Memᴰ (next b s) l) (sym (through i ∙ ap (λ l. once eq (sit [] ∷ []) (each g l)) (take-all i (explored eq B next (sit []) i) h)))
+        (gather-has by-state (each g (explored eq B next (sit []) i)) (sit [] ∷ []) (each-has g m (map-has (λ b. next b s) n)))
+
+    -- ---- the states of all inputs of at most n bytes are numbered, each once
+
+    words-has : (w : List ℕ) → ((b : ℕ) → List·Memᴰ b w → List·Memᴰ b B) → (v : List ℕ) (n : ℕ) → List·Memᴰ v (words B n) → List·Memᴰ (v ++ w) (words B (n + length w))
+    unfolding words
+    words-has [] h v n m = let e : n ≡ n + 0 = omega arith in subst (λ k. List·Memᴰ (v ++ []) (words B k)) e (rw append-nil m)
+    words-has (b ∷ w) h v n m =
+        let e : suc n + length w ≡ n + suc (length w) = omega arith in
+        subst (λ k. List·Memᴰ (v ++ b ∷ w) (words B k)) e
+        (rw append-snoc at (words-has w (λ c k. h c (List·Memᴰ·tail k)) (v ++ (b ∷ [])) (suc n)
+        (each-has (λ w. map (λ b. w ++ (b ∷ [])) B) m (map-has (λ b. v ++ (b ∷ [])) (h b (List·Memᴰ·head refl))))))
+
+    words-upto : (n : ℕ) {w : List ℕ} → List·Memᴰ w (words B n) → List·Memᴰ w (upto B n)
+    unfolding upto
+    words-upto zero m = m
+    words-upto (suc n) m = Memᴰ·append-right (upto B n) m
+
+    pub numbered-has : (w : List ℕ) → ((b : ℕ) → List·Memᴰ b w → List·Memᴰ b B) → List·Memᴰ (sit w) (numbered eq B sit (length w))
+    unfolding numbered words
+    numbered-has w h =
+        let m = words-has w h [] 0 (List·Memᴰ·head refl) in
+        let e : 0 + length w ≡ length w = omega arith in
+        gather-has by-state (map sit (upto B (length w))) [] (map-has sit (words-upto (length w) (subst (λ k. List·Memᴰ w (words B k)) e m)))
+
+    pub numbered-sole : (n : ℕ) → Sole by-state (numbered eq B sit n)
+    unfolding numbered
+    numbered-sole n = gather-sole by-state (map sit (upto B n)) [] tt
+
+    -- and are those of some input
+    words-of : (n : ℕ) {w : List ℕ} → List·Memᴰ w (words B n) → (b : ℕ) → List·Memᴰ b w → List·Memᴰ b B
+    unfolding words
+    words-of zero m b k = absurd (elim (rw (List·Memᴰ·eq-of-singleton m) at k) [ ])
+    words-of (suc n) {w} m b k =
+        let c = each-cases (λ w. map (λ b. w ++ (b ∷ [])) B) (words B n) m in
+        let d = Memᴰ·of-map (λ b. c .0 ++ (b ∷ [])) B (c .2) in
+        by (c .0) (d .0) (d .1) (λ j. words-of n (c .1) b j) (List·Memᴰ·append-cases (c .0) (subst (λ v. List·Memᴰ b v) (sym (d .2)) k))
+      where
+        by : (v : List ℕ) (a : ℕ) → List·Memᴰ a B → (List·Memᴰ b v → List·Memᴰ b B) → List·Memᴰ b v ⊎ List·Memᴰ b (a ∷ []) → List·Memᴰ b B
+        by v a i ih (inl j) = ih j
+        by v a i ih (inr j) = Memᴰ·cast (List·Memᴰ·eq-of-singleton j) i
+
+    upto-of : (n : ℕ) {w : List ℕ} → List·Memᴰ w (upto B n) → (b : ℕ) → List·Memᴰ b w → List·Memᴰ b B
+    unfolding upto
+    upto-of zero m = words-of zero m
+    upto-of (suc n) {w} m = by (λ k. upto-of n k) (List·Memᴰ·append-cases (upto B n) m)
+      where
+        by : (List·Memᴰ w (upto B n) → (b : ℕ) → List·Memᴰ b w → List·Memᴰ b B) → List·Memᴰ w (upto B n) ⊎ List·Memᴰ w (words B (suc n)) → (b : ℕ) → List·Memᴰ b w → List·Memᴰ b B
+        by ih (inl k) = ih k
+        by ih (inr k) = words-of (suc n) k
+
+    pub numbered-of : (n : ℕ) {s : S} → List·Memᴰ s (numbered eq B sit n) → (w : List ℕ) × ((b : ℕ) → List·Memᴰ b w → List·Memᴰ b B) × (sit w ≡ s)
+    unfolding numbered
+    numbered-of n {s} m = by (gather-in by-state (map sit (upto B n)) [] m)
+      where
+        by : List·Memᴰ s [] ⊎ List·Memᴰ s (map sit (upto B n)) → (w : List ℕ) × ((b : ℕ) → List·Memᴰ b w → List·Memᴰ b B) × (sit w ≡ s)
+        by (inl k) = absurd (elim k [ ])
+        by (inr k) = let c = Memᴰ·of-map sit (upto B n) k in (c .0, upto-of n (c .1), c .2)

@@ -3,9 +3,12 @@
 use mathlib.Core.Path.{_≡_, refl, sym, ap, _∙_, subst}
 use mathlib.Core.Logic.{_⊎_, inl, inr}
 use mathlib.Core.List.{List, [], _∷_, _++_, foldl, foldl-append, append-nil, List·Memᴰ, List·Memᴰ·head, List·Memᴰ·tail, List·Memᴰ·cases-cons, List·Memᴰ·append-cases, List·Memᴰ·eq-of-singleton, Memᴰ·append-left, Memᴰ·append-right}
+use Prim.Native.Nat.{ℕ, zero, suc, _<_}
+use native.Mathlib.Omega.{arith}
+use lib.ListN.{length, getD}
 use lib.Seq.{append-snoc}
 use Rattle.ground.specs.Lists.{each}
-use Rattle.paths.proofs.Common.{each-append, Prefix, ≼-self, ≼-trans, Ordered, ordered-cross, ordered-skip}
+use Rattle.paths.proofs.Common.{each-append, getD-mem, Prefix, ≼-self, ≼-trans, Ordered, ordered-cross, ordered-skip}
 
 -- Each of S has a key; `Has y l` says that one of l has the key y; `put` adds one whose key is new.
 pub record Keyed {S K : Type 0} (key : S → K) (Has : K → List S → Type 0) (put : List S → S → List S) : Type 0 where
@@ -142,6 +145,14 @@ module _ {S K : Type 0} {key : S → K} {Has : K → List S → Type 0} {put : L
       by : Has (key s) O ⊎ (¬ Has (key s) O) → Sole (put O s)
       by (inl m) = rw (κ .known O s m) o
       by (inr m) = rw (κ .new O s m) (sole-snoc O s o m)
+
+  -- so its place is told by its key
+  pub sole-at : (d : S) (l : List S) → Sole l → (i j : ℕ) → i < length l → j < length l → key (getD l i d) ≡ key (getD l j d) → i ≡ j
+  sole-at d [] o i j h k e = absurd (omega arith)
+  sole-at d (s ∷ l) o zero zero h k e = refl
+  sole-at d (s ∷ l) o zero (suc j) h k e = absurd (o .0 (subst (λ y. Has y l) (sym e) (has-of (getD-mem l j d (omega arith)))))
+  sole-at d (s ∷ l) o (suc i) zero h k e = absurd (o .0 (subst (λ y. Has y l) e (has-of (getD-mem l i d (omega arith)))))
+  sole-at d (s ∷ l) o (suc i) (suc j) h k e = ap suc (sole-at d l (o .1) i j (omega arith) (omega arith) e)
 
   -- ---- only the first of each key matters, to what comes of each
 
