@@ -6,7 +6,6 @@ const FILL: u8 = 0xa5;
 const GUARD: usize = 32;
 
 extern "C" {
-    fn cv_count(net: *const u8, net_len: usize, index: usize, count: *mut u32) -> u8;
     fn cv_field_code(line: *const u8, line_len: usize, from: i16, to: i16) -> u8;
     fn cv_field(line: *const u8, line_len: usize, from: i16, to: i16, out: *mut u8, out_len: usize) -> usize;
 }
@@ -35,13 +34,6 @@ impl Guarded {
         }
         Ok(&self.all[GUARD..end])
     }
-}
-
-/// How many bytes a record takes: code and count.
-pub fn count(net: &[u8], index: usize) -> (u8, u32) {
-    let mut count = 0xa5a5a5a5;
-    let code = unsafe { cv_count(net.as_ptr(), net.len(), index, &mut count) };
-    (code, count)
 }
 
 /// The field call: its number, and the bytes of the part.

@@ -115,7 +115,8 @@ fn star(p: &Pat, line: &[u8], at: u64) -> u64 {
 /// A legal net of a few records.
 pub fn net(rng: &mut Rng) -> Vec<u8> {
     let tags = rng.below(9);
-    let count = 1 + rng.below(if rng.one_in(8) { 64 } else { 10 });
+    let most = if rng.one_in(8) { 64 } else { 10 };
+    let count = 1 + rng.below(most);
     let mut file = vec![0x10, 1, tags as u8, count as u8];
     for _ in 0..count {
         let next = rng.below(count) as u8;

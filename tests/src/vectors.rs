@@ -30,7 +30,6 @@ pub fn cases(kind: &str) -> Vec<String> {
 pub fn fault(case: &str) -> Option<String> {
     let w: Vec<&str> = case.split(' ').filter(|x| !x.is_empty()).collect();
     let told = match w[0] {
-        "C" => count(&w),
         "F" => field(&w),
         _ => Err("no such kind".to_string()),
     };
@@ -52,10 +51,6 @@ fn raw(word: &str) -> Vec<u8> {
 
 fn same<T: PartialEq + std::fmt::Debug>(got: T, want: T) -> Fits {
     if got == want { Ok(()) } else { Err(format!("got {got:?}, want {want:?}")) }
-}
-
-fn count(w: &[&str]) -> Fits {
-    same(calls::count(&raw(w[1]), number(w[2])), (number(w[3]), number(w[4])))
 }
 
 fn field(w: &[&str]) -> Fits {

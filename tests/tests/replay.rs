@@ -11,11 +11,6 @@ fn replay(kind: &str) {
 }
 
 #[test]
-fn counts() {
-    replay("C");
-}
-
-#[test]
 fn fields() {
     replay("F");
 }
