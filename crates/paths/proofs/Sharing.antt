@@ -174,7 +174,7 @@ by-places (s ∷ l) (u ∷ k) x y r h =
     (ap₂ (λ n τ. record { on = n; had = τ }) (head-eq-of-cons-eq r) (ext-getD none (s .had) (u .had) (a ∙ sym b) (λ t g. h 0 t)))
     (by-places l k (λ v m. x v (List·Memᴰ·tail m)) (λ v m. y v (List·Memᴰ·tail m)) (tail-eq-of-cons-eq r) (λ i t. h (suc i) t))
 
-eight-renamed : (σ : ℕ → ℕ → ℕ) (l : List (Thread Tags)) → Eight l → Eight (rename σ l)
+pub eight-renamed : (σ : ℕ → ℕ → ℕ) (l : List (Thread Tags)) → Eight l → Eight (rename σ l)
 eight-renamed σ [] x s m = absurd (elim m [ ])
 eight-renamed σ (u ∷ l) x s m = by (λ n. eight-renamed σ l (λ v j. x v (List·Memᴰ·tail j)) s n) (List·Memᴰ·cases-cons m)
   where
