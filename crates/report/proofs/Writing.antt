@@ -8,7 +8,11 @@ use native.Mathlib.Numerals.{add-one}
 use lib.ListN.{length, take, getD, set, length-set, length-append}
 use lib.Seq.{take-suc, take-suc-set, take-all}
 use borrow.Author.Tests.{lt-ltb, le-ltb}
+use lib.IntN.{ℤ}
 use Rattle.ground.specs.Pick.{pick}
+use Rattle.ground.specs.Lists.{each}
+use Rattle.ground.proofs.Lists.{each-append}
+use Rattle.report.specs.Lines.{spaced}
 use Rattle.report.specs.Text.{digits, Wrote}
 
 pub wrote-none : (l : List ℕ) (at : ℕ) → Wrote l l at at []
@@ -75,3 +79,11 @@ wrote-more a b text at i h room w =
 
 pub wrote-all : (a b text : List ℕ) (at i : ℕ) → length text ≤ i → i ≤ length text → Wrote a b at (at + i) (take i text) → Wrote a b at (at + i) text
 wrote-all a b text at i l m w = subst (Wrote a b at (at + i)) (take-all i text l) w
+
+-- ---- one position more
+
+pub spaced-more : {a b c : List ℕ} {at m r : ℕ} (places : List ℤ) (i : ℕ) (d : ℤ) → i < length places → Wrote a b at m (each spaced (take i places))
+    → Wrote b c m r (spaced (getD places i d)) → Wrote a c at r (each spaced (take (i + 1) places))
+spaced-more {a} {b} {c} {at} {m} {r} places i d h x y =
+    let t : take (i + 1) places ≡ take i places ++ (getD places i d ∷ []) = rw add-one (take-suc places i d h) in
+    rw (t, each-append) (subst (λ (u : List ℕ). Wrote a c at r (each spaced (take i places) ++ u)) (sym (append-nil (spaced (getD places i d)))) (wrote-then x y))

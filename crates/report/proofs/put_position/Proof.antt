@@ -1,4 +1,5 @@
 -- `report::put_position` meets its contract. Assumes nothing.
+use native.Mathlib.Omega.{arith}
 use borrow.Author.Needs.{needs}
 use mathlib.Core.Path.{_≡_, refl, sym, subst}
 use Rattle.ground.proofs.Places.{arrived}
@@ -20,7 +21,9 @@ same-length c = search needs
 
 returns : tie.Need-returns
 returns c =
-    rw (arrived _ (c .before .before .before .before .before .before .before .before .before .before .fits .v) (c .before .before .before .place-of .ensures) refl) (wrote-then (c .before .before .before .before .before .before .before .put-byte .ensures) (c .before .before .put-shown .ensures))
+    let one = c .before .before .before .before .before .before .before .put-byte .ensures in
+    let rest = c .before .before .put-shown .ensures in
+    (rw (arrived _ (c .before .before .before .before .before .before .before .before .before .before .fits .v) (c .before .before .before .place-of .ensures) refl) (wrote-then one (rest .0)), omega arith)
 
 pub put-position-spec : {M : Type 1} → statement M
 put-position-spec =
