@@ -1,4 +1,4 @@
--- The byte count of a record, from the file to the count; and that two results of one call are equal. Assumes nothing.
+-- The byte count of a record, from the file to the count. Assumes nothing.
 use mathlib.Core.Path.{_≡_, refl, sym, ap, ap₂, _∙_, subst}
 use mathlib.Core.Bool.{Bool, true, false}
 use mathlib.Core.List.{List, [], _∷_, _++_}
@@ -80,19 +80,16 @@ module _ {s : List ℕ} {p : Layout} (l : LayoutOf s p) (z : p .code ≡ 0) wher
     item = rw (same, l .counted z) at (item-there (l .placed z) index within)
 
     module _ (n : Next) (e : n ≡ shown (getD (p .at) index 0) (itemAt s (getD (p .at) index 0) (p .tags) (p .count))) where
-      pub never-refused : (u : ℕ) → n ≡ Refused u → ⊥
+      handed : n ≡ Got (item-shown (getD (p .at) index 0) (rec-at s (getD (p .at) index 0))) (getD (p .at) index 0 + size (getD s (getD (p .at) index 0) 0))
       unfolding shown
-      never-refused u r =
-          let g : n ≡ Got (item-shown (getD (p .at) index 0) (rec-at s (getD (p .at) index 0))) (getD (p .at) index 0 + size (getD s (getD (p .at) index 0) 0)) = rw item at e in
-          let o : _≡_ {A = ℕ} 0 1 = cc in
-          omega arith
+      handed = rw item at e
+
+      pub never-refused : (u : ℕ) → n ≡ Refused u → ⊥
+      never-refused u r = let h = handed in let o : _≡_ {A = ℕ} 0 1 = cc in omega arith
 
       module _ (x : Item) (after : ℕ) (r : n ≡ Got x after) where
         is-shown : x ≡ item-shown (getD (p .at) index 0) (rec-at s (getD (p .at) index 0))
-        unfolding shown
-        is-shown =
-            let g : n ≡ Got (item-shown (getD (p .at) index 0) (rec-at s (getD (p .at) index 0))) (getD (p .at) index 0 + size (getD s (getD (p .at) index 0) 0)) = rw item at e in
-            cc
+        is-shown = let h = handed in cc
 
         pub can-count : Countable s x
         can-count = rw is-shown (countable s (getD (p .at) index 0) (p .tags) (p .count) (here .kind) (here .whole) fits)

@@ -6,3 +6,4 @@ pub mod Inside
 pub mod Inverse
 pub mod Bits
 pub mod Counting
+pub mod Once

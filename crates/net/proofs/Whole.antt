@@ -258,10 +258,10 @@ module _ (s : List ℕ) where
 
 -- ---- the file
 
-net-tags : {t u : ℕ} {A B : Net} → net t A ≡ net u B → t ≡ u
+pub net-tags : {t u : ℕ} {A B : Net} → net t A ≡ net u B → t ≡ u
 net-tags e = cc
 
-net-recs : {t u : ℕ} {A B : Net} → net t A ≡ net u B → A ≡ B
+pub net-recs : {t u : ℕ} {A B : Net} → net t A ≡ net u B → A ≡ B
 net-recs e = cc
 
 -- a file that reads as a net has its HEAD, and its records stand one after the other
