@@ -1,5 +1,5 @@
--- Document 01, "Situations": the threads after some input. `every` lists all admissible paths, the earlier first; `threads` is what the builder
--- does, one search with shared marks after each byte. Both for anything, X, that a thread gathers by its moves. Assumes nothing.
+-- Document 01, "Situations": "RANGE, MASK and END records that admissible paths stand on". `every` lists all admissible paths, the earlier first; `threads`
+-- is one search with shared marks after each byte. Both for anything, X, that a thread gathers by its moves. Assumes nothing.
 use mathlib.Core.Bool.{Bool, true, false, _&&_, cond}
 use mathlib.Core.List.{List, [], _∷_, _++_, foldl}
 use mathlib.Core.Option.{Option, none, some}
@@ -51,7 +51,7 @@ module _ {X : Type 0} (f : Move → X → X) where
     threads [] ss = close ss
     threads (b ∷ w) ss = threads w (each (on-byte b) (close ss))
 
--- the first thread that stands on an END: its answer, and what it holds
+-- "the answer is the first END in the list": of the first thread that stands on an END its answer, and what it holds
 abbrev pub ending : {X : Type 0} → Rec → X → Option (ℕ × X) → Option (ℕ × X)
 ending (range lo hi n) x o = o
 ending (mask bits n) x o = o
