@@ -1,30 +1,29 @@
 -- The laws of this crate, in document 01's words; each cites its proof. Assumes nothing.
-use mathlib.Core.Path.{_≡_, refl, sym, ap, _∙_, subst}
-use mathlib.Core.Logic.{_⊎_, inl, inr, _↔_}
-use mathlib.Core.List.{List, [], _∷_, _++_, foldl, List·Memᴰ}
-use mathlib.Core.Option.{Option, none, some, Option·some-injective}
+use mathlib.Core.Path.{_≡_, refl, sym, ap, _∙_}
+use mathlib.Core.Logic.{_⊎_, _↔_}
+use mathlib.Core.List.{List, [], _∷_, _++_, List·Memᴰ}
+use mathlib.Core.Option.{Option, none, some}
 use Prim.Native.Nat.{ℕ, suc, _+_, _≤_, _<_}
 use native.Mathlib.Omega.{arith}
 use lib.ListN.{length, getD}
-use Rattle.net.specs.Rec.{Net, rec, end}
+use Rattle.net.specs.Rec.{Net}
 use Rattle.ground.specs.Lists.{each}
-use Rattle.paths.specs.Ways.{Move, Way, eaten, Accepts, Accepted, Answer}
+use Rattle.paths.specs.Ways.{Move, Accepts, Accepted, Answer}
 use Rattle.paths.specs.Search.{Thread, firsts, paths}
 use Rattle.paths.specs.Situation.{on-quiet, close, threads, first-end, answer}
-use Rattle.paths.specs.Registers.{Tags, standing, step, begin, after, Key, held-by, index, registers, renamed, rename, number, situation, next, State, feed, run, ready, shown}
-use Rattle.paths.specs.Marks.{Marked, marked-close}
+use Rattle.paths.specs.Registers.{Tags, standing, step, Key, held-by, index, registers, renamed, situation, next, State, feed, run, ready, shown}
+use Rattle.paths.specs.Marks.{marked-close}
 use Rattle.paths.specs.Meaning.{Best, Situation, trails, waiting, meant}
 use Rattle.paths.specs.Equal.{Alike}
 use Rattle.paths.specs.Limits.{Sit, Input, Numbered, Over-registers, Over-situations, first, Closes, Too-many-registers, Too-many-situations, Stops}
 use Rattle.paths.proofs.Heart as heart
-use Rattle.paths.proofs.Closure.{Done}
 use Rattle.paths.proofs.Faithful.{onto, Trail}
 use Rattle.paths.proofs.Same.{lift-end, lifts-end}
 use Rattle.paths.proofs.Answers as answers
 use Rattle.paths.proofs.Bridge.{at-place, answer-after}
 use Rattle.paths.proofs.Meant as meaning
 use Rattle.paths.proofs.Best as best
-use Rattle.paths.proofs.Numbers.{hat, Apart, register-at}
+use Rattle.paths.proofs.Numbers.{Apart, register-at}
 use Rattle.paths.proofs.Next as steps
 use Rattle.paths.proofs.Marking as marks
 use Rattle.paths.proofs.Run as runs

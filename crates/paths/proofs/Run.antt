@@ -1,16 +1,16 @@
 -- A run over registers shows, after any input, the places of the builder's list. Assumes nothing.
 use mathlib.Core.Path.{_≡_, refl, sym, ap, _∙_}
 use mathlib.Core.Logic.{_⊎_, inl, inr}
-use mathlib.Core.Bool.{Bool, true, false, cond}
+use mathlib.Core.Bool.{true, false}
 use mathlib.Core.List.{List, [], _∷_, _++_, map, foldl, List·Memᴰ}
 use Prim.Native.Nat.{ℕ, zero, suc, _+_, _<_}
 use native.Mathlib.Nat.{lt-irrefl, le-of-suc-le-suc, not-suc-le-zero}
 use native.Mathlib.Omega.{arith}
-use lib.Dec.{T, ltb, ltb→lt, lt→ltb}
+use lib.Dec.{ltb, ltb→lt, lt→ltb}
 use lib.ListN.{length, getD, length-map}
 use Rattle.net.specs.Rec.{Net}
 use Rattle.paths.specs.Search.{Thread}
-use Rattle.paths.specs.Registers.{Tags, Key, held-by, index, registers, rename, number, step, begin, after, situation, next, origins, fetch, moved, State, feed, run, ready, shown}
+use Rattle.paths.specs.Registers.{Tags, Key, held-by, index, registers, rename, number, step, begin, after, situation, next, origins, fetch, State, feed, run, ready, shown}
 use Rattle.paths.proofs.Member.{Bool-cases, T-of, of-T}
 use Rattle.paths.proofs.Numbers.{rename-rename, rename-same, rename-self, register-at}
 use Rattle.paths.specs.Situation.{first-end, answer}

@@ -3,14 +3,14 @@
 use mathlib.Core.Bool.{Bool, true, false, _&&_, cond}
 use mathlib.Core.List.{List, [], _∷_, _++_, map, foldl}
 use mathlib.Core.Option.{Option, none, some}
-use Prim.Native.Nat.{ℕ, zero, suc, _+_}
+use Prim.Native.Nat.{ℕ, suc}
 use lib.Dec.{eqb, ltb}
 use lib.ListN.{length, getD, set}
 use Rattle.net.specs.Rec.{Rec, range, mask, fork, tag, end, Net, rec}
-use Rattle.paths.specs.Ways.{Turn, first, second, mark, Move, eat, turn}
+use Rattle.paths.specs.Ways.{first, second, mark, Move, eat, turn}
 use Rattle.ground.specs.Lists.{each}
-use Rattle.paths.specs.Search.{choose, Thread, paths, firsts}
-use Rattle.paths.specs.Situation.{on-quiet, on-byte, close}
+use Rattle.paths.specs.Search.{Thread}
+use Rattle.paths.specs.Situation.{on-byte, close}
 
 abbrev pub Tags : Type 0
 Tags = List (Option ℕ)

@@ -1,13 +1,12 @@
 -- Document 01, "Paths and their order": "A path starts at record 0, place 0, all tags -1." Which paths are admissible, which of two is the earlier, and the
 -- answer of a line. Nothing here computes a table or a situation. Assumes nothing.
 use mathlib.Core.Path.{_≡_}
-use mathlib.Core.Bool.{Bool, true, false}
-use mathlib.Core.List.{List, [], _∷_, _++_, List·Memᴰ}
+use mathlib.Core.List.{List, [], _∷_, List·Memᴰ}
 use mathlib.Core.Logic.{_⊎_}
 use mathlib.Core.Option.{Option, none, some}
-use Prim.Native.Nat.{ℕ, zero, suc, _+_, _≤_}
+use Prim.Native.Nat.{ℕ, _+_, _≤_}
 use lib.ListN.{set}
-use Rattle.net.specs.Rec.{Rec, range, mask, fork, tag, end, Net, rec, bit}
+use Rattle.net.specs.Rec.{range, mask, fork, tag, end, Net, rec, bit}
 
 -- ---- paths
 
