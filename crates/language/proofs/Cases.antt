@@ -4,11 +4,11 @@ use mathlib.Core.List.{List, [], _∷_}
 use mathlib.Core.Option.{Option, none, some}
 use Prim.Native.Nat.{ℕ}
 use lib.ListN.{take}
-use Rattle.net.specs.Rec.{Rec, range, mask, fork, tag, end}
+use Rattle.net.specs.Rec.{range, fork, tag, end}
 use Rattle.paths.specs.Ways.{Held}
 use Rattle.paths.specs.Situation.{answer, threads, close, on-quiet, on-byte}
 use Rattle.paths.specs.Search.{visit}
-use Rattle.pattern.specs.Pat.{Pat, Empty, Byte, Any, Set, Tag, Seq, Alt, Star, Plus, Opt, automaton}
+use Rattle.pattern.specs.Pat.{Pat, Empty, Byte, Tag, Seq, Alt, Star, Plus, Opt, automaton}
 
 -- END 0 with t0 and t1, or nothing
 abbrev Told : Type 0

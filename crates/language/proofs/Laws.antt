@@ -1,15 +1,13 @@
 -- The laws of this crate, in document 01's words; each cites its proof. Assumes nothing.
-use mathlib.Core.Path.{_≡_}
 use mathlib.Core.Logic.{_↔_}
 use mathlib.Core.List.{List}
 use Prim.Native.Nat.{ℕ}
 use mathlib.Core.Option.{Option}
 use Rattle.paths.specs.Ways.{Accepted, Answer}
 use Rattle.paths.proofs.Laws.{loops-cut}
-use Rattle.pattern.specs.Pat.{Pat, automaton, size}
+use Rattle.pattern.specs.Pat.{Pat, automaton}
 use Rattle.language.specs.Words.{language}
 use Rattle.language.specs.Written.{Written}
-use Rattle.language.proofs.Walk.{ends}
 use Rattle.language.proofs.Matches.{path-reads, matches}
 use Rattle.language.proofs.Denoted as denoted
 use Rattle.language.proofs.Written as writing

@@ -1,14 +1,14 @@
 -- Paths through the records of a pattern, and its readings: one and the same. Assumes nothing.
-use mathlib.Core.Path.{_≡_, refl, sym, ap, _∙_, subst}
+use mathlib.Core.Path.{_≡_, refl, sym, ap, _∙_}
 use mathlib.Core.Logic.{_⊎_, inl, inr}
-use mathlib.Core.List.{List, [], _∷_, _++_, append-nil, append-assoc}
+use mathlib.Core.List.{List, [], _∷_, _++_, append-assoc}
 use Prim.Native.Nat.{ℕ, zero, suc, _+_, _≤_, _<_}
 use native.Mathlib.Omega.{arith}
 use native.Mathlib.Numerals.{add-one}
-use lib.ListN.{length, getD, length-append}
+use lib.ListN.{length, length-append}
 use lib.Seq.{append-snoc, getD-append-seam, getD-at}
 use Rattle.net.specs.Rec.{Rec, range, mask, fork, tag, end, Net, rec, bit}
-use Rattle.paths.specs.Ways.{Turn, first, second, mark, Move, eat, turn, Step, by-range, by-mask, by-first, by-second, by-tag, Way, stay, go, eaten}
+use Rattle.paths.specs.Ways.{first, second, mark, Move, eat, turn, Step, by-range, by-mask, by-first, by-second, by-tag, Way, stay, go, eaten}
 use Rattle.pattern.specs.Pat.{Pat, Empty, Byte, Any, Set, Tag, Seq, Alt, Star, Plus, Opt, size, startAt, compile, automaton}
 pub use Rattle.language.specs.Written.{start, At}
 use Rattle.language.specs.Language.{In, nothing, byte, any, one-of, marked, both, left, right, over, round, rounds, with, without}

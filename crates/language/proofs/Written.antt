@@ -1,10 +1,10 @@
 -- The records of a pattern stand as written, and none leads outside. Assumes nothing.
-use mathlib.Core.Path.{_≡_, refl, sym, ap, _∙_, subst}
+use mathlib.Core.Path.{_≡_, sym, ap, _∙_, subst}
 use mathlib.Core.List.{List, [], _∷_, _++_}
 use Prim.Native.Nat.{ℕ, zero, suc, _+_, _≤_, _<_}
 use native.Mathlib.Omega.{arith}
 use lib.ListN.{length, getD, length-append}
-use Rattle.net.specs.Rec.{Rec, mask, fork, end, rec}
+use Rattle.net.specs.Rec.{Rec, mask, fork, end}
 use Rattle.pattern.specs.Pat.{Pat, Empty, Byte, Any, Set, Tag, Seq, Alt, Star, Plus, Opt, size, startAt, compile, automaton}
 use Rattle.language.specs.Written.{Inside, Written}
 use Rattle.language.proofs.Walk.{stands, ends, begins, length-compile}

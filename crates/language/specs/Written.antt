@@ -1,6 +1,5 @@
 -- Document 01, "Pattern text": "Records are numbered as written." Assumes nothing.
 use mathlib.Core.Path.{_≡_}
-use mathlib.Core.List.{List, [], _∷_}
 use Prim.Native.Nat.{ℕ, _+_, _<_}
 use lib.ListN.{length}
 use Rattle.net.specs.Rec.{Rec, range, mask, fork, tag, end, Net, rec}

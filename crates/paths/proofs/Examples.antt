@@ -7,7 +7,7 @@ use Prim.Native.Nat.{ℕ, zero, suc}
 use mathlib.Core.Bool.{true, false}
 use lib.Dec.{ltb}
 use lib.ListN.{take, replicate, length}
-use Rattle.net.specs.Rec.{Rec, range, mask, fork, tag, end, Net}
+use Rattle.net.specs.Rec.{Rec, range, fork, tag, end, Net}
 use Rattle.paths.specs.Ways.{Held}
 use Rattle.paths.specs.Situation.{answer, threads, close, on-quiet, on-byte}
 use Rattle.paths.specs.Search.{visit}

@@ -3,22 +3,22 @@
 use mathlib.Core.Path.{_≡_, refl, sym, ap, _∙_, subst}
 use mathlib.Core.Logic.{_⊎_, inl, inr}
 use mathlib.Core.Bool.{Bool, true, false}
-use mathlib.Core.List.{List, [], _∷_, _++_, map, append-nil, List·Memᴰ, List·Memᴰ·head, List·Memᴰ·tail, List·Memᴰ·append-cases, List·Memᴰ·eq-of-singleton}
+use mathlib.Core.List.{List, [], _∷_, _++_, map, append-nil, List·Memᴰ, List·Memᴰ·head, List·Memᴰ·tail}
 use Prim.Native.Nat.{ℕ, zero, suc, _+_, _-_, _≤_, _<_}
 use native.Mathlib.Numerals.{add-one}
 use native.Mathlib.Omega.{arith}
 use native.Mathlib.Decide.{decLe}
-use lib.ListN.{length, getD, take, drop, length-append, List·getD-append}
+use lib.ListN.{length, getD, take, length-append, List·getD-append}
 use lib.Seq.{getD-append-seam, drop-cons}
 use Rattle.net.specs.Rec.{Net}
 use Rattle.ground.specs.Lists.{each}
 use Rattle.paths.specs.Search.{choose}
 use Rattle.paths.specs.Registers.{registers, situation, next}
 use Rattle.paths.specs.Equal.{same-situation}
-use Rattle.paths.specs.Numbering.{words, upto, among, put, once, numbered, nexts, explored}
+use Rattle.paths.specs.Numbering.{among, put, once, nexts, explored}
 use Rattle.paths.specs.Limits.{Sit, bytes, Input, all, Numbered, Over-registers, Over-situations, first, here, partly, Small, Closes, Too-many-registers, Too-many-situations, Stops, at-start, at-byte}
-use Rattle.paths.proofs.Common.{Prefix, ≼-trans, ≼-length, ≼-at, ≼-mem, map-≼, map-append, getD-mem, mem-getD}
-use Rattle.paths.proofs.Firsts.{Keyed, gather-append, gather-mono, put-≼, put-has, sole-at}
+use Rattle.paths.proofs.Common.{Prefix, ≼-trans, ≼-length, ≼-at, map-≼, map-append, getD-mem, mem-getD}
+use Rattle.paths.proofs.Firsts.{Keyed, gather-append, gather-mono, put-has, sole-at}
 use Rattle.paths.proofs.Next.{situation-next}
 use Rattle.paths.proofs.Exploring.{by-state, numbered-≼, numbered-has, numbered-of, numbered-sole, explored-≼, explored-next}
 use Rattle.paths.proofs.Builder.{situation-test, found-first, found-all}
