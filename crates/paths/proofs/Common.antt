@@ -47,6 +47,10 @@ pub mem-getD : {A : Type 0} (d : A) {x : A} {l : List A} → List·Memᴰ x l �
 mem-getD d (List·Memᴰ·head e) = (0, (omega arith, sym e))
 mem-getD d (List·Memᴰ·tail m) = let r = mem-getD d m in (suc (r .0), (omega (arith, r .1 .0), r .1 .1))
 
+pub mem-split : {A : Type 0} {x : A} {l : List A} → List·Memᴰ x l → (pre : List A) × ((post : List A) × (l ≡ pre ++ x ∷ post))
+mem-split (List·Memᴰ·head {xs = xs} e) = ([], (xs, ap (λ y. y ∷ xs) (sym e)))
+mem-split (List·Memᴰ·tail {x = y} m) = let r = mem-split m in (y ∷ r .0, (r .1 .0, ap (λ k. y ∷ k) (r .1 .1)))
+
 -- ---- one list is the beginning of another
 
 pub record Prefix {A : Type 0} (l k : List A) : Type 0 where

@@ -103,7 +103,7 @@ unfolding explored situation next number registers after begin step close on-qui
 five-dots = refl
 
 -- "six `.`: SITUATIONS": there is a 97th
-six-dots : ltb 96 (length (found (97 ∷ 98 ∷ []) (shift 6) 96)) ≡ true
+six-dots : ltb 96 (length (found (97 ∷ 98 ∷ []) (shift 6) 49)) ≡ true
 unfolding explored situation next number registers after begin step close on-quiet on-byte visit
 six-dots = refl
 

@@ -200,7 +200,7 @@ module _ (A : Net) where
         one-of-three = limits.one-of-three A;
       }
 
-  -- the numbers themselves: 0 is the empty input's; each has one situation, each situation one; every input's has one; each is an input's
+  -- the numbers themselves: 0 is the empty input's; each has one situation, each situation one; the lower has the earlier first input; every input's has one; each is an input's
   pub number-zero : Numbered A 0 (situation A [])
   number-zero = limits.numbered-zero A
 
@@ -209,6 +209,10 @@ module _ (A : Net) where
 
   pub number-once : {k j : ℕ} {s : Sit} → Numbered A k s → Numbered A j s → k ≡ j
   number-once x y = limits.number-once A x y
+
+  pub number-order : {k j : ℕ} {s t : Sit} → Numbered A k s → Numbered A j t → k < j → (w : List ℕ) → Input w → situation A w ≡ t
+      → (v : List ℕ) × (Input v × ((situation A v ≡ s) × Before v w))
+  number-order x y h w i e = limits.number-order A x y h w i e
 
   pub number-every : (w : List ℕ) → Input w → (k : ℕ) × Numbered A k (situation A w)
   number-every w h = limits.numbered-every A w h
