@@ -1,7 +1,7 @@
 //! One ask of the probe's line protocol, answered.
 
 use crate::calls;
-use crate::text::{hex, join};
+use crate::text::{bytes, hex, join};
 
 const BAD: &str = "? bad request";
 const NOT_YET: &str = "? not yet";
@@ -10,8 +10,9 @@ const NOT_YET: &str = "? not yet";
 pub fn answer(line: &str) -> String {
     let words: Vec<&str> = line.split(' ').collect();
     let told = match words.as_slice() {
+        ["count", net, index] => count(net, index),
         ["field", len, from, to] => field(len, from, to),
-        ["pattern", _, _] | ["count", _, _] | ["build", _, _, _] | ["load", _] | ["run", _, _] | ["tagline", _] => {
+        ["pattern", _, _] | ["build", _, _, _] | ["load", _] | ["run", _, _] | ["tagline", _] => {
             Some(Ok(NOT_YET.to_string()))
         }
         _ => None,
@@ -24,6 +25,11 @@ pub fn answer(line: &str) -> String {
 }
 
 type Told = Option<Result<String, String>>;
+
+fn count(net: &str, index: &str) -> Told {
+    let (code, count) = calls::count(&bytes(net)?, index.parse().ok()?);
+    Some(Ok(format!("{code} {count}")))
+}
 
 /// The line's bytes tell its places apart, so that a part that starts elsewhere is another part.
 fn field(len: &str, from: &str, to: &str) -> Told {

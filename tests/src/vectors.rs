@@ -30,7 +30,9 @@ pub fn cases(kind: &str) -> Vec<String> {
 pub fn fault(case: &str) -> Option<String> {
     let w: Vec<&str> = case.split(' ').filter(|x| !x.is_empty()).collect();
     let told = match w[0] {
+        "C" => count(&w),
         "F" => field(&w),
+        "G" => reading(&w),
         _ => Err("no such kind".to_string()),
     };
     match told {
@@ -51,6 +53,17 @@ fn raw(word: &str) -> Vec<u8> {
 
 fn same<T: PartialEq + std::fmt::Debug>(got: T, want: T) -> Fits {
     if got == want { Ok(()) } else { Err(format!("got {got:?}, want {want:?}")) }
+}
+
+fn count(w: &[&str]) -> Fits {
+    same(calls::count(&raw(w[1]), number(w[2])), (number(w[3]), number(w[4])))
+}
+
+fn reading(w: &[&str]) -> Fits {
+    let places: [i16; 8] = std::array::from_fn(|i| number(w[2 + i]));
+    let (code, part) = calls::reading(&raw(w[1]), &places, number(w[10]), number(w[11]))?;
+    same(code, number(w[12]))?;
+    if is(w[13], &part) { Ok(()) } else { Err("another part".to_string()) }
 }
 
 fn field(w: &[&str]) -> Fits {

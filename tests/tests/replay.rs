@@ -11,6 +11,16 @@ fn replay(kind: &str) {
 }
 
 #[test]
+fn counts() {
+    replay("C");
+}
+
+#[test]
+fn readings() {
+    replay("G");
+}
+
+#[test]
 fn fields() {
     replay("F");
 }
