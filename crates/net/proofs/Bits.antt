@@ -4,16 +4,15 @@ use native.Mathlib.Omega.{arith}
 use native.Mathlib.Nat.{add-zero, zero-add, add-assoc, add-suc, mod-lt, div-one}
 use native.Mathlib.Numerals.{one-add, add-one}
 use mathlib.Core.Path.{_≡_, refl, sym, ap, ap₂, _∙_}
-use mathlib.Core.Bool.{Bool, true, false, _&&_}
+use mathlib.Core.Bool.{Bool, true, false}
 use mathlib.Core.List.{List}
-use lib.ListN.{length, getD, take, drop}
+use lib.ListN.{getD, take, drop}
 use lib.Seq.{getD-drop, getD-take}
-use lib.Dec.{leb, eqb, lit<}
+use lib.Dec.{eqb, lit<}
 use lib.Count.{ones, ones-step, ones-cat}
 use lib.Pow.{shr-shr, shr-lt}
 use lib.Arith.{lt-one}
 use borrow.Author.Tests.{le-leb, lt-leb}
-use Rattle.net.specs.Rec.{bit}
 use Rattle.net.specs.Count.{one, count-below, between, bit-set}
 
 -- ---- counts

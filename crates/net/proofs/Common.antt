@@ -1,10 +1,10 @@
 -- Small laws of lists of any crate. Assumes nothing.
-use mathlib.Core.Path.{_≡_, refl, sym, ap, _∙_}
+use mathlib.Core.Path.{_≡_, sym, ap, _∙_}
 use mathlib.Core.List.{List, [], _∷_, _++_, map}
-use Prim.Native.Nat.{ℕ, zero, suc, _+_, _≤_, _<_}
+use Prim.Native.Nat.{ℕ, zero, suc, _+_, _<_}
 use native.Mathlib.Omega.{arith}
 use native.Mathlib.Numerals.{add-one}
-use lib.ListN.{length, getD, take, drop}
+use lib.ListN.{length, getD, drop}
 use lib.Seq.{drop-cons}
 use Rattle.net.specs.File.{Every, Bytes}
 
@@ -36,3 +36,7 @@ pub bytes-at : (s : List ℕ) → Bytes s → (i : ℕ) → getD s i 0 < 256
 bytes-at [] e i = omega arith
 bytes-at (x ∷ s) e zero = e .0
 bytes-at (x ∷ s) e (suc i) = bytes-at s (e .1) i
+
+pub every-append : {A : Type 0} (P : A → Type 0) (l m : List A) → Every P l → Every P m → Every P (l ++ m)
+every-append P [] m e f = f
+every-append P (x ∷ l) m e f = (e .0, every-append P l m (e .1) f)

@@ -1,19 +1,17 @@
 -- The byte count of a record, from the file to the count. Assumes nothing.
-use mathlib.Core.Path.{_≡_, refl, sym, ap, ap₂, _∙_, subst}
-use mathlib.Core.Bool.{Bool, true, false}
-use mathlib.Core.List.{List, [], _∷_, _++_}
-use Prim.Native.Nat.{ℕ, zero, suc, _+_, _-_, _≤_, _<_}
+use mathlib.Core.Path.{_≡_, refl, sym, ap, _∙_}
+use mathlib.Core.List.{List}
+use Prim.Native.Nat.{ℕ, _+_, _≤_, _<_}
 use native.Mathlib.Omega.{arith}
-use lib.ListN.{length, getD, take, drop, take-append-drop}
+use lib.ListN.{length, getD, take}
 use lib.Seq.{getD-take}
 use borrow.Author.Tests.{lt-ltb, le-ltb}
 use Rattle.ground.specs.Pick.{pick}
-use Rattle.net.specs.Rec.{Rec, range, mask, fork, tag, end, Net, rec}
+use Rattle.net.specs.Rec.{Net, rec}
 use Rattle.net.specs.File.{Fits}
-use Rattle.net.specs.Items.{rec-at, net-at, size, ItemRead, got, stop, itemAt, NetRead, net, refused, number, netOf, codeOf, Placed}
+use Rattle.net.specs.Items.{rec-at, size, got, itemAt, NetRead, net, refused, netOf, codeOf}
 use Rattle.net.specs.Calls.{item-shown, shown, LayoutOf}
 use Rattle.net.specs.Count.{refuse, not-bytes, rec-count, count-in, byteCount, rec-shown, Countable}
-use Rattle.net.specs.declared.Count.{Count}
 use Rattle.net.specs.declared.Item.{Item}
 use Rattle.net.specs.declared.Layout.{Layout}
 use Rattle.net.specs.declared.Next.{Next}

@@ -1,12 +1,12 @@
 -- Where the bytes of a placed record stand, and what record it is. Assumes nothing.
-use mathlib.Core.Path.{_≡_, refl, sym, ap, _∙_, subst}
+use mathlib.Core.Path.{_≡_, refl, sym, subst}
 use mathlib.Core.Bool.{Bool, true, false, cond}
 use mathlib.Core.List.{List, [], _∷_, map}
 use Prim.Native.Nat.{ℕ, zero, suc, _+_, _≤_, _<_}
 use native.Mathlib.Omega.{arith}
 use lib.Dec.{eqb}
 use lib.ListN.{length, getD, length-map}
-use Rattle.net.specs.Rec.{Rec, mask, Net, rec}
+use Rattle.net.specs.Rec.{mask, rec}
 use Rattle.net.specs.File.{Every, Fits, Legal}
 use Rattle.net.specs.Items.{rec-at, net-at, size, starts, got, itemAt, Placed}
 use Rattle.net.proofs.Common.{every-at, every-from}

@@ -1,21 +1,20 @@
 -- Reading and writing an automaton file are inverse. Assumes nothing.
 use mathlib.Core.Path.{_≡_, refl, sym, ap, ap₂, _∙_, subst}
-use mathlib.Core.Bool.{Bool, true, false, cond, not, _&&_}
+use mathlib.Core.Bool.{true}
 use mathlib.Core.List.{List, [], _∷_, _++_, append-assoc, append-nil}
-use Prim.Native.Nat.{ℕ, zero, suc, _+_, _-_, _≤_, _<_}
+use Prim.Native.Nat.{ℕ, _+_, _≤_, _<_}
 use native.Mathlib.Omega.{arith}
-use lib.Dec.{ltb, leb, eqb}
 use lib.ListN.{length, getD, take, drop, length-append}
 use lib.Seq.{getD-append-add, getD-append-seam, getD-at, drop-append-add, take-at}
-use borrow.Author.Tests.{lt-ltb, le-ltb, le-leb, lt-leb, eq-eqb, ne-eqb}
+use borrow.Author.Tests.{lt-ltb, le-ltb, le-leb, ne-eqb}
 use Rattle.ground.specs.Pick.{pick}
 use Rattle.ground.specs.Lists.{each}
 use Rattle.net.specs.Rec.{Rec, range, mask, fork, tag, end, Net}
 use Rattle.net.specs.File.{Every, Bytes, rec-bytes, fileOf, Fits, Legal}
-use Rattle.net.specs.Items.{rec-at, net-at, size, starts, number, ItemRead, got, stop, known, in-range, bodyAt, itemAt, HeadRead, counts, bad, head-in-range, headOf, NetRead, net, refused, prepend, after-item, recsFrom, after-head, netOf, codeOf, Placed}
-use Rattle.net.proofs.Common.{peel, bytes-at}
+use Rattle.net.specs.Items.{rec-at, size, got, known, in-range, itemAt, counts, headOf, net, prepend, after-item, recsFrom, after-head, netOf, NetFault, refused, NetRead, codeOf}
+use Rattle.net.proofs.Common.{peel, bytes-at, every-append}
 use Rattle.net.proofs.Reading.{at-range, at-mask, at-fork, at-tag, at-end}
-use Rattle.net.proofs.Whole.{reads-from, HeadTaken, head-taken, net-head, placed, item-got}
+use Rattle.net.proofs.Whole.{number-pos, reads-from, HeadTaken, head-taken, net-head, placed, item-got}
 use Rattle.net.proofs.Inside.{placed-legal}
 
 -- ---- what reads is what is written
@@ -102,3 +101,38 @@ module _ {tags : ℕ} {A : Net} (l : Legal tags A) where
   pub read-back : netOf (fileOf tags A) ≡ net tags A
   unfolding netOf after-head
   read-back = rw head-back (back tags (length A) A (16 ∷ 1 ∷ tags ∷ length A ∷ []) (l .fits))
+
+-- ---- legal files, said from the writing side
+
+rec-are-bytes : (tags count : ℕ) → tags ≤ 8 → count ≤ 64 → (x : Rec) → Fits tags count x → Bytes (rec-bytes x)
+rec-are-bytes tags count t c (range lo hi n) f = (omega arith, (omega (arith, f .0, f .1), (omega (arith, f .1), (omega (arith, f .2), tt))))
+rec-are-bytes tags count t c (mask bits n) f = (omega arith, every-append (λ (b : ℕ). b < 256) bits (n ∷ []) (f .1) (omega (arith, f .2), tt))
+rec-are-bytes tags count t c (fork a b) f = (omega arith, (omega (arith, f .0), (omega (arith, f .1), tt)))
+rec-are-bytes tags count t c (tag u n) f = (omega arith, (omega (arith, f .0), (omega (arith, f .1), tt)))
+rec-are-bytes tags count t c (end a) f = (omega arith, (omega (arith, f), tt))
+
+recs-are-bytes : (tags count : ℕ) → tags ≤ 8 → count ≤ 64 → (A : Net) → Every (Fits tags count) A → Bytes (each rec-bytes A)
+recs-are-bytes tags count t c [] f = tt
+recs-are-bytes tags count t c (x ∷ A) f =
+    every-append (λ (b : ℕ). b < 256) (rec-bytes x) (each rec-bytes A) (rec-are-bytes tags count t c x (f .0)) (recs-are-bytes tags count t c A (f .1))
+
+pub file-bytes : {tags : ℕ} {A : Net} → Legal tags A → Bytes (fileOf tags A)
+file-bytes {tags} {A} l =
+    (omega arith, (omega arith, (omega (arith, l .few-tags), (omega (arith, l .few), recs-are-bytes tags (length A) (l .few-tags) (l .few) A (l .fits)))))
+
+module _ (s : List ℕ) where
+  -- what is refused is no legal net's file
+  pub never-written : (f : NetFault) → netOf s ≡ refused f → (tags : ℕ) (A : Net) → Legal tags A → s ≡ fileOf tags A → ⊥
+  never-written f e tags A l w =
+      let r : netOf s ≡ net tags A = rw w (read-back l) in
+      let z : _≡_ {A = ℕ} 0 1 = cc in
+      omega arith
+
+  by-net : (n : NetRead) → netOf s ≡ n → Bytes s → codeOf n ≡ 0 → (tags : ℕ) × (A : Net) × (s ≡ fileOf tags A) × Legal tags A
+  unfolding codeOf
+  by-net (refused f) e b c = absurd (omega (arith, number-pos f))
+  by-net (net tags A) e b c = let w = written s b tags A e in (tags, A, w .0, w .1)
+
+  -- what is taken is
+  pub check-legal : Bytes s → codeOf (netOf s) ≡ 0 → (tags : ℕ) × (A : Net) × (s ≡ fileOf tags A) × Legal tags A
+  check-legal b c = by-net (netOf s) refl b c

@@ -1,16 +1,15 @@
 -- The pass over a file that keeps the places of its records. Assumes nothing.
 use mathlib.Core.Path.{_≡_, refl, sym, ap, ap₂, _∙_, subst}
-use mathlib.Core.Bool.{Bool, true, false}
 use mathlib.Core.List.{List, [], _∷_, _++_, append-nil, append-assoc}
-use Prim.Native.Nat.{ℕ, zero, suc, _+_, _-_, _≤_, _<_}
+use Prim.Native.Nat.{ℕ, suc, _+_, _-_, _≤_, _<_}
 use native.Mathlib.Omega.{arith}
 use native.Mathlib.Numerals.{add-one}
 use lib.ListN.{length, getD, take, drop, set, replicate, length-set, length-replicate}
-use lib.Seq.{take-suc-set, drop-set-lt, drop-cons, drop-drop, length-take-le}
+use lib.Seq.{take-suc-set, drop-set-lt, drop-drop, length-take-le}
 use borrow.Author.Tests.{lt-ltb, le-ltb}
 use Rattle.ground.specs.Pick.{pick}
 use Rattle.net.specs.Rec.{Rec}
-use Rattle.net.specs.Items.{size, starts, NetFault, net-extra, number, ItemRead, got, stop, itemAt, HeadRead, counts, bad, headOf, NetRead, net, refused, prepend, after-item, recsFrom, after-head, netOf, codeOf, Placed}
+use Rattle.net.specs.Items.{starts, NetFault, net-extra, number, ItemRead, got, stop, itemAt, HeadRead, counts, bad, headOf, refused, prepend, after-item, recsFrom, after-head, netOf, codeOf}
 use Rattle.net.specs.Calls.{head-shown, item-shown, shown, no-layout, LayoutOf}
 use Rattle.net.specs.declared.Head.{Head}
 use Rattle.net.specs.declared.Head.the-variants.{Counts, Bad}

@@ -1,13 +1,13 @@
 -- Two results that meet a call's promise are equal; and a count is at most 256. Assumes nothing.
 use mathlib.Core.Path.{_≡_, refl, sym, ap, ap₂, _∙_}
 use mathlib.Core.Bool.{Bool, true, false}
-use mathlib.Core.List.{List, [], _∷_, _++_}
-use Prim.Native.Nat.{ℕ, zero, suc, _+_, _-_, _≤_}
+use mathlib.Core.List.{List, _++_}
+use Prim.Native.Nat.{ℕ, zero, suc, _-_, _≤_}
 use native.Mathlib.Omega.{arith}
 use lib.Dec.{ltb}
 use lib.ListN.{length, take, drop, replicate, take-append-drop}
 use Rattle.ground.specs.Pick.{pick}
-use Rattle.net.specs.Rec.{Rec, range, mask, fork, tag, end, rec, Net}
+use Rattle.net.specs.Rec.{Rec, range, mask, fork, tag, end, rec}
 use Rattle.net.specs.Items.{net-at, starts, NetRead, net, refused, netOf, codeOf}
 use Rattle.net.specs.Calls.{no-layout, LayoutOf}
 use Rattle.net.specs.Count.{one, count-below, not-bytes, rec-count, count-in, byteCount}

@@ -1,17 +1,15 @@
 -- The record at a place by its kind, and what the item at a place is. Assumes nothing.
-use mathlib.Core.Path.{_≡_, refl, sym, ap, _∙_}
-use mathlib.Core.Bool.{Bool, true, false, cond, not, _&&_}
+use mathlib.Core.Path.{_≡_, refl}
+use mathlib.Core.Bool.{Bool, true, false, _&&_}
 use mathlib.Core.List.{List}
 use Prim.Native.Nat.{ℕ, _+_, _≤_, _<_}
 use native.Mathlib.Omega.{arith}
-use lib.Dec.{leb, eqb}
 use lib.ListN.{length, getD, take, drop}
 use borrow.Author.Tests.{lt-ltb, le-ltb, le-leb, lt-leb, leb-true}
 use Rattle.ground.specs.Pick.{pick}
 use Rattle.net.specs.Rec.{Rec, range, mask, fork, tag, end}
-use Rattle.net.specs.Items.{rec-at, size, number, net-kind, net-short, net-field, ItemRead, got, stop, known, in-range, bodyAt, itemAt}
+use Rattle.net.specs.Items.{rec-at, size, number, known, in-range, bodyAt, itemAt}
 use Rattle.net.specs.Calls.{item-shown, shown}
-use Rattle.net.specs.declared.Next.{Next}
 use Rattle.net.specs.declared.Next.the-variants.{Got, Refused}
 
 module _ (s : List ℕ) (at : ℕ) where

@@ -1,20 +1,20 @@
 -- What is known of a file whose items the reader takes: each record, its bytes, and the file. Assumes nothing.
 use mathlib.Core.Path.{_≡_, refl, sym, ap, ap₂, _∙_, subst}
-use mathlib.Core.Bool.{Bool, true, false, cond, not, _&&_, false≢true}
-use mathlib.Core.List.{List, [], _∷_, _++_, map, append-assoc}
-use Prim.Native.Nat.{ℕ, zero, suc, _+_, _-_, _≤_, _<_}
+use mathlib.Core.Bool.{Bool, true, false, _&&_, false≢true}
+use mathlib.Core.List.{List, [], _∷_, _++_, append-assoc}
+use Prim.Native.Nat.{ℕ, zero, suc, _+_, _≤_, _<_}
 use native.Mathlib.Omega.{arith}
 use lib.Dec.{ltb, leb, eqb}
 use lib.ListN.{length, getD, take, drop, take-append-drop, length-drop, length-map, drop-of-length-le}
 use lib.Seq.{drop-drop, getD-take, getD-drop, length-take-le}
-use borrow.Author.Tests.{lt-leb, le-ltb, ltb-true, ltb-false, leb-true, leb-false, eqb-true, eqb-false, not-false}
+use borrow.Author.Tests.{lt-leb, le-ltb, ltb-true, ltb-false, leb-true, eqb-true, eqb-false, not-false}
 use Rattle.ground.specs.Pick.{pick}
 use Rattle.ground.specs.Lists.{each}
-use Rattle.net.specs.Rec.{Rec, range, mask, fork, tag, end, Net}
-use Rattle.net.specs.File.{Every, Bytes, rec-bytes, fileOf, Fits, Legal}
-use Rattle.net.specs.Items.{rec-at, net-at, size, starts, NetFault, net-kind, net-short, net-field, net-extra, number, ItemRead, got, stop, known, in-range, bodyAt, itemAt, HeadRead, counts, bad, head-in-range, headOf, NetRead, net, refused, prepend, after-item, recsFrom, after-head, netOf, codeOf, Placed}
-use Rattle.net.proofs.Common.{every-at, every-from, every-map, peel}
-use Rattle.net.proofs.Reading.{at-range, at-mask, at-fork, at-tag, at-end, unknown}
+use Rattle.net.specs.Rec.{Rec, Net}
+use Rattle.net.specs.File.{Every, Bytes, rec-bytes, Fits}
+use Rattle.net.specs.Items.{rec-at, net-at, size, starts, NetFault, net-kind, net-short, net-field, net-extra, number, ItemRead, got, stop, known, in-range, bodyAt, itemAt, HeadRead, counts, bad, headOf, NetRead, net, refused, prepend, after-item, recsFrom, after-head, netOf, codeOf, Placed}
+use Rattle.net.proofs.Common.{every-at, every-from, peel}
+use Rattle.net.proofs.Reading.{at-range, at-mask, at-fork, at-tag, at-end}
 
 pub number-pos : (f : NetFault) → 0 < number f
 unfolding number

@@ -1,5 +1,5 @@
 -- `net::byte_count` meets its contract. Assumes nothing.
-use mathlib.Core.Path.{_≡_, sym, ap, _∙_}
+use mathlib.Core.Path.{ap, _∙_}
 use native.Mathlib.Omega.{arith}
 use Rattle.net.specs.Count.{refuse, byteCount}
 use Rattle.net.proofs.Counting.{count-refused, layout-few, absent, never-refused, can-count, counts-it}

@@ -1,5 +1,5 @@
 -- `net::item_count` meets its contract. Assumes nothing.
-use mathlib.Core.Path.{_≡_, sym, ap, _∙_}
+use mathlib.Core.Path.{sym, ap, _∙_}
 use denote.Ref.{now}
 use Rattle.net.specs.Count.{rec-count, rec-shown}
 use Rattle.net.specs.declared.Item.{Item}

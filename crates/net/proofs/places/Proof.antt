@@ -1,6 +1,6 @@
 -- `net::places` meets its contract. The loop keeps, of the records passed, their places, and of the rest what the file still has to say (Laying.antt). Assumes nothing.
 use Prim.Native.Nat.{_-_}
-use mathlib.Core.Path.{_≡_, refl, sym, ap, _∙_}
+use mathlib.Core.Path.{refl, ap, _∙_}
 use native.Mathlib.Omega.{arith}
 use borrow.Author.Needs.{needs}
 use Rattle.net.specs.Items.{net-extra, number}
