@@ -1,4 +1,5 @@
-// The bank of 64 registers, handed in and handed back by value.
+// The bank of 64 registers, handed in and handed back by value. That a register's number is below 64 is shown by the caller, who
+// has it out of a table that was judged; that a place is no larger than a position holds, by the caller too, who let the line in.
 ghost use mathlib.Core.Path.{_≡_};
 ghost use Prim.Native.Nat.{_≤_, _<_};
 ghost use lib.IntN.{pos};
@@ -17,7 +18,7 @@ impl Bank {
         Bank { r: [-1i16; 64] }
     }
 
-    // A place is stored.
+    // A place is stored. The caller shows both bounds.
     pub fn store(mut self, to: usize, place: usize) -> Self
         requires { ⌜ (to < 64) × (place ≤ placeMax) ⌝ }
         ensures { λ r. ⌜ r .r ≡ set (self .r) to (pos place) ⌝ }
@@ -27,7 +28,7 @@ impl Bank {
         self
     }
 
-    // A register is copied from an old bank: one list reads all its sources before it writes.
+    // A register is copied from an old bank: one list reads all its sources before it writes. The caller shows both bounds.
     pub fn copied(mut self, old: Bank, to: usize, from: usize) -> Self
         requires { ⌜ (to < 64) × (from < 64) ⌝ }
         ensures { λ r. ⌜ r .r ≡ set (self .r) to (getD (old .r) from (pos 0)) ⌝ }
@@ -37,7 +38,7 @@ impl Bank {
         self
     }
 
-    // What a register holds.
+    // What a register holds. The caller shows the bound.
     pub fn read(self, from: usize) -> i16
         requires { ⌜ from < 64 ⌝ }
         ensures { λ r. ⌜ r ≡ getD (self .r) from (pos 0) ⌝ }

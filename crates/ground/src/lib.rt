@@ -17,7 +17,7 @@ pub enum Place {
     Absent,
 }
 
-// A place as a position. The cast loses nothing, at 32767 either.
+// A place as a position. The cast loses nothing, at 32767 either. That the place is no larger is shown by whoever counted to it.
 pub fn held(place: usize) -> i16
     requires { ⌜ place ≤ placeMax ⌝ }
     ensures { λ r. ⌜ r ≡ pos place ⌝ }
