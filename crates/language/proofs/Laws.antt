@@ -1,10 +1,13 @@
 -- The laws of this crate, in document 01's words; each cites its proof. Assumes nothing.
+use mathlib.Core.Path.{_≡_}
 use mathlib.Core.Logic.{_↔_}
 use mathlib.Core.List.{List}
+use mathlib.Core.Option.{Option, none}
 use Prim.Native.Nat.{ℕ}
-use mathlib.Core.Option.{Option}
 use Rattle.paths.specs.Ways.{Accepted, Answer}
-use Rattle.paths.proofs.Laws.{loops-cut}
+use Rattle.paths.specs.Situation.{first-end}
+use Rattle.paths.specs.Registers.{situation}
+use Rattle.paths.proofs.Laws.{loops-cut, run-none}
 use Rattle.pattern.specs.Pat.{Pat, automaton}
 use Rattle.language.specs.Words.{language}
 use Rattle.language.specs.Written.{Written}
@@ -22,6 +25,13 @@ compile-language p w = (
 -- so an answer is given only to a line of the language
 pub answered-in : (p : Pat) (w : List ℕ) (a : ℕ) (τ : List (Option ℕ)) → Answer (automaton p) w a τ → language p w
 answered-in p w a τ d = compile-language p w .0 (a, loops-cut (automaton p) w a .0 (d .moves, d .accepts))
+
+-- NO_MATCH: the line's situation has no END exactly if the line is not in the language
+pub no-match : (p : Pat) (w : List ℕ) → (first-end (automaton p) (situation (automaton p) w) ≡ none) ↔ (¬ language p w)
+no-match p w = (
+  λ e l. let c = compile-language p w .1 l in run-none (automaton p) w .0 e (c .0) (c .1),
+  λ h. run-none (automaton p) w .1 (λ a c. h (compile-language p w .0 (a, c))),
+)
 
 -- "Records are numbered as written": each record's number is its place in the written order, and every next, first and second is below the count
 pub numbering : (p : Pat) → Written p
