@@ -7,11 +7,12 @@ use mathlib.Core.Path.{_≡_, refl, sym, ap, _∙_, subst}
 use mathlib.Core.List.{List, [], _∷_, _++_}
 use lib.ListN.{length, getD, drop, set, length-set, List·getD-append}
 use lib.Seq.{drop-cons, set-at}
+use Rattle.card.specs.Table.{Sit}
 use Rattle.card.specs.declared.Order.{Order}
 use Rattle.card.specs.declared.Order.the-variants.{Move, Put, Stop}
 use Rattle.card.specs.declared.RowItem.{RowItem}
 use Rattle.card.specs.declared.RowItem.the-variants.{Leads, Ends}
-use Rattle.card.specs.Decode.{cmdAt, past, afterN, afterAt, rowAt, pastRow, afterRowsN, afterRows, placesFrom, placesOf}
+use Rattle.card.specs.Decode.{cmdAt, past, afterN, afterAt, rowAt, pastRow, afterRowsN, afterRows, sitAt, sitsFrom, placesFrom, placesOf}
 use Rattle.card.specs.Places.{noted}
 use Rattle.card.proofs.Laws.{move-facts, put-facts}
 use Rattle.card.proofs.Rows.{after-ge, no-line, row-whole}
@@ -94,6 +95,18 @@ unfolding placesFrom placeAfter
 place-is zero s at q l = absurd (omega arith)
 place-is (suc n) s at zero l = refl
 place-is (suc n) s at (suc q) l = place-is n s (afterRows s (at + 10)) q (omega arith)
+
+-- the situation at each place
+pub sit-is : (n : ℕ) (s : List ℕ) (at q : ℕ) (none : Sit) → q < n → getD (sitsFrom n s at) q none ≡ sitAt s (getD (placesFrom n s at) q 0)
+unfolding sitsFrom placesFrom
+sit-is zero s at q none l = absurd (omega arith)
+sit-is (suc n) s at zero none l = refl
+sit-is (suc n) s at (suc q) none l = sit-is n s (afterRows s (at + 10)) q none (omega arith)
+
+pub sits-length : (n : ℕ) (s : List ℕ) (at : ℕ) → length (sitsFrom n s at) ≡ n
+unfolding sitsFrom
+sits-length zero s at = refl
+sits-length (suc n) s at = ap suc (sits-length n s (afterRows s (at + 10)))
 
 -- one more is noted
 append-one : (p : List ℕ) (a : ℕ) (q : List ℕ) → (p ++ (a ∷ [])) ++ q ≡ p ++ (a ∷ q)
