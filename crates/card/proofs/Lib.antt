@@ -3,3 +3,9 @@ pub mod Rows
 pub mod Situations
 pub mod Common
 pub mod Decoded
+pub mod Fields
+pub mod Allowed
+pub mod Items
+pub mod Passing
+pub mod Rest
+pub mod Formed

@@ -1,4 +1,6 @@
 // The table file: its items read at a place.
+pub mod form;
+
 ghost use mathlib.Core.Path.{_≡_};
 ghost use Prim.Native.Nat.{_≤_};
 ghost use Rattle.card.specs.Decode.{cmdAt, rowAt, afterAt, afterRows};
