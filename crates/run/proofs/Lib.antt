@@ -1,0 +1,4 @@
+pub mod Carrying
+pub mod Filling
+pub mod Riding
+pub mod Telling
