@@ -37,6 +37,7 @@ pub enum Next {
     Refused(u8),
 }
 
+// The HEAD: edition 1, tags 0..8, count 1..64.
 fn read_head(s: &[u8]) -> Head
     ensures { λ r. ⌜ r ≡ head-shown (headOf (now (s .entry))) ⌝ }
 {
@@ -66,6 +67,7 @@ fn read_head(s: &[u8]) -> Head
     Head::Counts(tags, count)
 }
 
+// A RANGE: lo, hi, next.
 fn range_item(s: &[u8], at: usize, count: u8) -> Next
     requires { ⌜ (at < length (now s)) × (getD (now s) at 0 ≡ 0x11) ⌝ }
     ensures { λ r. ⌜ ((tags : ℕ) → r ≡ shown at (bodyAt (now (s .entry)) at tags count)) ⌝ }
@@ -85,6 +87,7 @@ fn range_item(s: &[u8], at: usize, count: u8) -> Next
     Next::Got(Item::Range(lo, hi, next), at + 4)
 }
 
+// A MASK: 32 bytes, next.
 fn mask_item(s: &[u8], at: usize, count: u8) -> Next
     requires { ⌜ (at < length (now s)) × (getD (now s) at 0 ≡ 0x12) ⌝ }
     ensures { λ r. ⌜ ((tags : ℕ) → r ≡ shown at (bodyAt (now (s .entry)) at tags count)) ⌝ }
@@ -99,6 +102,7 @@ fn mask_item(s: &[u8], at: usize, count: u8) -> Next
     Next::Got(Item::Mask(at + 1, next), at + 34)
 }
 
+// A FORK: first, second.
 fn fork_item(s: &[u8], at: usize, count: u8) -> Next
     requires { ⌜ (at < length (now s)) × (getD (now s) at 0 ≡ 0x13) ⌝ }
     ensures { λ r. ⌜ ((tags : ℕ) → r ≡ shown at (bodyAt (now (s .entry)) at tags count)) ⌝ }
@@ -117,6 +121,7 @@ fn fork_item(s: &[u8], at: usize, count: u8) -> Next
     Next::Got(Item::Fork(first, second), at + 3)
 }
 
+// A TAG: tag, next.
 fn tag_item(s: &[u8], at: usize, tags: u8, count: u8) -> Next
     requires { ⌜ (at < length (now s)) × (getD (now s) at 0 ≡ 0x14) ⌝ }
     ensures { λ r. ⌜ r ≡ shown at (bodyAt (now (s .entry)) at tags count) ⌝ }
@@ -135,6 +140,7 @@ fn tag_item(s: &[u8], at: usize, tags: u8, count: u8) -> Next
     Next::Got(Item::Tag(tag, next), at + 3)
 }
 
+// An END: answer 0..254.
 fn end_item(s: &[u8], at: usize) -> Next
     requires { ⌜ (at < length (now s)) × (getD (now s) at 0 ≡ 0x15) ⌝ }
     ensures { λ r. ⌜ ((tags count : ℕ) → r ≡ shown at (bodyAt (now (s .entry)) at tags count)) ⌝ }
@@ -149,6 +155,7 @@ fn end_item(s: &[u8], at: usize) -> Next
     Next::Got(Item::End(answer), at + 2)
 }
 
+// The item at a place; its kind says how long its body is.
 fn next_item(s: &[u8], at: usize, tags: u8, count: u8) -> Next
     ensures { λ r. ⌜ r ≡ shown at (itemAt (now (s .entry)) at tags count) ⌝ }
 {
@@ -184,6 +191,7 @@ fn refusal(n: Next) -> u8
     }
 }
 
+// The number of a refused HEAD; 0 for a HEAD.
 fn head_refusal(h: Head) -> u8
     ensures { λ r. ⌜ r ≡ head-refusal-of h ⌝ }
 {
@@ -201,6 +209,7 @@ pub struct Layout {
     pub at: [usize; 64],
 }
 
+// What is handed back for a refused file.
 fn none(code: u8) -> Layout
     ensures { λ r. ⌜ r ≡ no-layout code ⌝ }
 {
@@ -300,6 +309,7 @@ pub struct Count {
     pub count: u32,
 }
 
+// What is handed back for a refused count.
 fn refused(code: u8) -> Count
     ensures { λ r. ⌜ r ≡ refuse code ⌝ }
 {
