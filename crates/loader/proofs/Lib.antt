@@ -9,3 +9,4 @@ pub mod Listing
 pub mod Walk
 pub mod Flowing
 pub mod Situated
+pub mod Judging

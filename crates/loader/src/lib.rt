@@ -3,6 +3,8 @@ ghost use mathlib.Core.Path.{_≡_};
 ghost use Prim.Native.Nat.{_+_, _≤_, _<_, _^_};
 ghost use lib.ListN.{length};
 ghost use Rattle.card.specs.Decode.{tableAt};
+ghost use Rattle.card.specs.Judged.{Judged};
+ghost use Rattle.loader.specs.Judges.{Judges};
 ghost use Rattle.loader.specs.Flow.{Listed, flow, Words, Pass, Closed, Settled, Loud, EmptyRead, Says, RowsOf, RowsSpread, Ready, RowAsks, FieldAsks, bitOf};
 use card::Order;
 use card::RowItem;
@@ -188,4 +190,32 @@ pub fn empty_read(s: &[u8], places: &[usize; 96]) -> bool
 {
     let may = settle(s, places);
     some_ask(s, places, &may)
+}
+
+// A table judged: the code, and the places of its situations where the form is right.
+pub struct Judgement {
+    pub code: u8,
+    pub places: [usize; 96],
+}
+
+pub fn judge(table: &[u8]) -> Judgement
+    ensures { λ r. ⌜ Judges (now (table .entry)) (r .code) (r .places) ⌝ }
+{
+    let mut places = [0usize; 96];
+    if !card::form::form_ok(table) {
+        return Judgement { code: 13, places };
+    }
+    card::places(table, &mut places);
+    if empty_read(table, &places) {
+        return Judgement { code: 14, places };
+    }
+    Judgement { code: 0, places }
+}
+
+// Judges any bytes: 0 for a table that is taken, 13 TABLE_FORM, 14 EMPTY_READ.
+pub fn load(table: &[u8]) -> u8
+    ensures { λ r. ⌜ Judged (now (table .entry)) r ⌝ }
+{
+    let j = judge(table);
+    j.code
 }

@@ -2,3 +2,6 @@ pub mod Carrying
 pub mod Filling
 pub mod Riding
 pub mod Telling
+pub mod Demand3
+pub mod One
+pub mod Joining

@@ -6,7 +6,7 @@ ghost use lib.ListN.{getD, take, drop};
 ghost use Rattle.card.specs.Decode.{cmdAt, cmdsAt, rowsAt, tableAt};
 ghost use Rattle.card.specs.Run.{lineMax, rowFor, at, over, refused, placeAt, tells};
 ghost use Rattle.run.specs.Carry.{carry, LeadsTo, Eight, Rides, Listless};
-ghost use Rattle.run.specs.Runs.{toldOf};
+ghost use Rattle.run.specs.Runs.{toldOf, Runs};
 use bank::Bank;
 use card::Order;
 use card::RowItem;
@@ -162,4 +162,20 @@ pub fn run_taken(s: &[u8], places: &[usize; 96], line: &[u8]) -> Ran
         answer,
         places: fields,
     }
+}
+
+// Judges the table, then runs it over the line.
+pub fn run(table: &[u8], line: &[u8]) -> Ran
+    ensures { λ r. ⌜ Runs (now (table .entry)) (now (line .entry)) (toldOf r) ⌝ }
+{
+    let j = loader::judge(table);
+    let code = j.code;
+    if code != 0 {
+        return refusal(code);
+    }
+    if LINE_MAX < line.len() {
+        return refusal(15);
+    }
+    let places = j.places;
+    run_taken(table, &places, line)
 }
