@@ -7,6 +7,15 @@ const GUARD: usize = 32;
 
 extern "C" {
     fn cv_count(net: *const u8, net_len: usize, index: usize, count: *mut u32) -> u8;
+    fn cv_load(table: *const u8, table_len: usize) -> u8;
+    fn cv_run(
+        table: *const u8,
+        table_len: usize,
+        line: *const u8,
+        line_len: usize,
+        answer: *mut u8,
+        places: *mut i16,
+    ) -> u8;
     fn cv_reading_code(line: *const u8, line_len: usize, places: *const i16, a: u8, b: u8) -> u8;
     fn cv_reading(
         line: *const u8,
@@ -72,4 +81,19 @@ pub fn field(line: &[u8], from: i16, to: i16) -> Result<(u8, Vec<u8>), String> {
     let room = out.part();
     let len = unsafe { cv_field(line.as_ptr(), line.len(), from, to, room.as_mut_ptr(), room.len()) };
     Ok((code, out.first(len)?.to_vec()))
+}
+
+/// What the loader answers of a table.
+pub fn load(table: &[u8]) -> u8 {
+    unsafe { cv_load(table.as_ptr(), table.len()) }
+}
+
+/// A run: code, answer and eight places.
+pub fn run(table: &[u8], line: &[u8]) -> (u8, u8, [i16; 8]) {
+    let mut answer = 0;
+    let mut places = [0x5a5a; 8];
+    let code = unsafe {
+        cv_run(table.as_ptr(), table.len(), line.as_ptr(), line.len(), &mut answer, places.as_mut_ptr())
+    };
+    (code, answer, places)
 }

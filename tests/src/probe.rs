@@ -8,16 +8,7 @@ const NOT_YET: &str = "? not yet";
 
 /// The answer to one line.
 pub fn answer(line: &str) -> String {
-    let words: Vec<&str> = line.split(' ').collect();
-    let told = match words.as_slice() {
-        ["count", net, index] => count(net, index),
-        ["field", len, from, to] => field(len, from, to),
-        ["pattern", _, _] | ["build", _, _, _] | ["load", _] | ["run", _, _] | ["tagline", _] => {
-            Some(Ok(NOT_YET.to_string()))
-        }
-        _ => None,
-    };
-    match told {
+    match told(line) {
         Some(Ok(text)) => text,
         Some(Err(broken)) => broken,
         None => BAD.to_string(),
@@ -25,6 +16,21 @@ pub fn answer(line: &str) -> String {
 }
 
 type Told = Option<Result<String, String>>;
+
+/// `None` where the line is no ask.
+fn told(line: &str) -> Told {
+    let words: Vec<&str> = line.split(' ').collect();
+    match words.as_slice() {
+        ["count", net, index] => count(net, index),
+        ["load", table] => Some(Ok(calls::load(&bytes(table)?).to_string())),
+        ["run", table, line] => run(table, line),
+        ["field", len, from, to] => field(len, from, to),
+        ["pattern", _, _] | ["build", _, _, _] | ["tagline", _] => {
+            Some(Ok(NOT_YET.to_string()))
+        }
+        _ => None,
+    }
+}
 
 fn count(net: &str, index: &str) -> Told {
     let (code, count) = calls::count(&bytes(net)?, index.parse().ok()?);
@@ -45,7 +51,7 @@ fn field(len: &str, from: &str, to: &str) -> Told {
     }))
 }
 
-/// A run's result as the probe prints it.
-pub fn run_text(code: u8, answer: u8, places: &[i16; 8]) -> String {
-    format!("{code} {answer} {}", join(places))
+fn run(table: &str, line: &str) -> Told {
+    let (code, answer, places) = calls::run(&bytes(table)?, &bytes(line)?);
+    Some(Ok(format!("{code} {answer} {}", join(&places))))
 }

@@ -33,6 +33,8 @@ pub fn fault(case: &str) -> Option<String> {
         "C" => count(&w),
         "F" => field(&w),
         "G" => reading(&w),
+        "L" => same(calls::load(&raw(w[1])), number(w[2])),
+        "R" => run(&w),
         _ => Err("no such kind".to_string()),
     };
     match told {
@@ -64,6 +66,11 @@ fn reading(w: &[&str]) -> Fits {
     let (code, part) = calls::reading(&raw(w[1]), &places, number(w[10]), number(w[11]))?;
     same(code, number(w[12]))?;
     if is(w[13], &part) { Ok(()) } else { Err("another part".to_string()) }
+}
+
+fn run(w: &[&str]) -> Fits {
+    let places = std::array::from_fn(|i| number(w[5 + i]));
+    same(calls::run(&raw(w[1]), &raw(w[2])), (number(w[3]), number(w[4]), places))
 }
 
 fn field(w: &[&str]) -> Fits {

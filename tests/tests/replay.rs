@@ -16,6 +16,16 @@ fn counts() {
 }
 
 #[test]
+fn loads() {
+    replay("L");
+}
+
+#[test]
+fn runs() {
+    replay("R");
+}
+
+#[test]
 fn readings() {
     replay("G");
 }

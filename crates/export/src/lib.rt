@@ -5,6 +5,9 @@ ghost use Rattle.ground.specs.Place.{placeOf};
 ghost use Rattle.field.specs.Field.{cutOf, codeOf, bytesOf};
 ghost use Rattle.net.specs.Count.{byteCount};
 ghost use Rattle.reading.specs.Reading.{cutBy};
+ghost use Rattle.card.specs.Judged.{Judged};
+ghost use Rattle.run.specs.Runs.{Runs};
+ghost use Rattle.export.specs.Results.{told};
 ghost use Rattle.export.specs.Copied.{Copies};
 
 // The number of the field call on these values.
@@ -55,4 +58,24 @@ pub extern "C" fn cv_reading(line: &[u8], places: &[i16; 8], a: u8, b: u8, out: 
         return bytes::copy(part, out);
     }
     part.len()
+}
+
+// Judges any bytes: 0 for a table that is taken, 13 TABLE_FORM, 14 EMPTY_READ.
+#[no_mangle]
+pub extern "C" fn cv_load(table: &[u8]) -> u8
+    ensures { λ r. ⌜ Judged (now (table .entry)) r ⌝ }
+{
+    loader::load(table)
+}
+
+// A run of a table over a line: the code, and beside it the answer and the eight places.
+#[no_mangle]
+pub extern "C" fn cv_run(table: &[u8], line: &[u8], answer: &mut u8, places: &mut [i16; 8]) -> u8
+    ensures { λ r. ⌜ Runs (now (table .entry)) (now (line .entry)) (told r (now (answer .exit)) (now (places .exit))) ⌝ }
+{
+    let r = run::run(table, line);
+    let p = r.places;
+    *answer = r.answer;
+    *places = p;
+    r.code
 }
