@@ -1,3 +1,4 @@
 pub mod Pick
 pub mod Lists
+pub mod Bits
 pub mod Place
