@@ -1,1 +1,5 @@
 pub mod Pat
+pub mod Tests
+pub mod Sets
+pub mod Reader
+pub mod Grammar
