@@ -1,2 +1,5 @@
+pub mod Common
+pub mod Words
+pub mod SetSteps
 pub mod Laws
 pub mod Examples

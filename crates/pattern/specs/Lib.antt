@@ -3,3 +3,4 @@ pub mod Tests
 pub mod Sets
 pub mod Reader
 pub mod Grammar
+pub mod Standing
