@@ -1,13 +1,12 @@
 -- A bank is its 64 registers: the promises of its methods settle it, and what was stored or copied is read back.
 -- Assumes nothing.
-use Prim.Native.Nat.{ℕ, _<_, _≤_}
+use Prim.Native.Nat.{ℕ, _<_}
 use mathlib.Core.Path.{_≡_, sym, ap, _∙_}
 use mathlib.Core.List.{List}
 use lib.IntN.{ℤ, pos}
 use lib.ListN.{length, getD, set, replicate, getD-replicate}
-use lib.Seq.{getD-set-same, getD-set-other}
+use lib.Seq.{getD-set-same}
 use Rattle.ground.specs.Place.{absent, placeOf}
-use Rattle.ground.specs.declared.Place.{Place}
 use Rattle.ground.specs.declared.Place.the-variants.{At, Absent}
 use Rattle.ground.proofs.Places.{back-from-held}
 use Rattle.bank.specs.declared.Bank.{Bank}

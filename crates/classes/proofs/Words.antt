@@ -1,28 +1,23 @@
 -- Laws of the class words. Assumes nothing.
 use mathlib.Core.Path.{_≡_, refl, sym, ap, _∙_}
-use mathlib.Core.Bool.{Bool, true, false, not, _&&_, _||_, Bool·beq}
-use mathlib.Core.List.{List, [], map}
+use mathlib.Core.Bool.{Bool, false, _||_}
+use mathlib.Core.List.{[], map}
 use Prim.Native.Nat.{ℕ, _/_, _%_, _^_, _<_, _≤_}
-use native.Mathlib.Omega.{arith}
-use lib.Dec.{T, eqb, ltb, eqb→eq}
-use lib.ListN.{length, getD, List·getD-map, List·getD-eq-default}
+use lib.Dec.{eqb, ltb, eqb→eq}
+use lib.ListN.{List·getD-map, List·getD-eq-default}
 use borrow.Author.Tests.{le-ltb}
 use Rattle.ground.specs.Bits.{bitOf, flag}
-use Rattle.ground.proofs.Bits.{bit-number}
-use Rattle.ground.proofs.Tested.{tested-below, below}
-use Rattle.classes.specs.Class.{Span, inSome, classes, classWord, inClass}
+use Rattle.ground.proofs.Bits.{bit-number, flag-test}
+use Rattle.ground.proofs.Tested.{tested-below}
+use Rattle.classes.specs.Class.{inSome, classes, classWord, inClass}
 
 -- bit k of a byte's word is its membership in class k
 pub bit-class : (k b : ℕ) → bitOf (classWord b) k ≡ flag (inClass k b)
 unfolding classWord inClass
 bit-class k b = bit-number (map (inSome b) classes) k ∙ ap flag (List·getD-map (inSome b) classes k [])
 
-flag-one : (c : Bool) → eqb (flag c) 1 ≡ c
-flag-one true = refl
-flag-one false = refl
-
 pub class-test : (k b : ℕ) → eqb (classWord b / 2 ^ k % 2) 1 ≡ inClass k b
-class-test k b = ap (λ (x : ℕ). eqb x 1) (bit-class k b) ∙ flag-one (inClass k b)
+class-test k b = ap (λ (x : ℕ). eqb x 1) (bit-class k b) ∙ flag-test (inClass k b)
 
 -- there are twelve classes
 pub no-class : (k b : ℕ) → 12 ≤ k → inClass k b ≡ false

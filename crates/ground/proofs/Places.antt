@@ -2,7 +2,7 @@
 use Prim.Native.Nat.{ℕ, _≤_}
 use native.Mathlib.Omega.{arith}
 use mathlib.Core.Path.{_≡_, refl, sym, ap, _∙_}
-use mathlib.Core.Bool.{Bool, true, false}
+use mathlib.Core.Bool.{true, false}
 use lib.IntN.{ℤ, pos, negsuc, natAbs}
 use lib.Signed.{nonNeg, ltZ}
 use lib.Dec.{T, lit≤}
@@ -91,7 +91,10 @@ pub at-last : placeOf (pos placeMax) ≡ At 32767
 unfolding placeOf
 at-last = refl
 
--- a second result that meets the promise of `held`, or of `place_of`, is equal
+-- a second result that meets the promise of `wide`, of `held` or of `place_of` is equal
+pub one-wide : (x : ℕ) {n m : ℕ} → n ≡ x → m ≡ x → n ≡ m
+one-wide x e f = e ∙ sym f
+
 pub one-held : (place : ℕ) {v w : ℤ} → v ≡ pos place → w ≡ pos place → v ≡ w
 one-held place e f = e ∙ sym f
 

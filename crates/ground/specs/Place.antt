@@ -1,7 +1,6 @@
 -- A position and what it says: "Tag positions are signed sixteen-bit, -1 or 0 to 32767."
 -- Assumes nothing: these are definitions.
 use Prim.Native.Nat.{ℕ, _≤_}
-use mathlib.Core.Path.{_≡_}
 use lib.IntN.{ℤ, pos, negsuc}
 use Rattle.ground.specs.declared.Place.{Place}
 use Rattle.ground.specs.declared.Place.the-variants.{At, Absent}
