@@ -3,4 +3,7 @@ pub mod Tests
 pub mod Sets
 pub mod Reader
 pub mod Grammar
+pub mod Maker
 pub mod Standing
+pub mod Measured
+pub mod Writing
