@@ -1,11 +1,15 @@
 -- What the writing functions leave. Assumes nothing: these are definitions.
 use Prim.Native.Nat.{ℕ, _+_, _≤_, _<_}
-use mathlib.Core.List.{List, []}
+use mathlib.Core.Bool.{Bool, false}
+use mathlib.Core.List.{List, [], _∷_, _++_}
 use lib.ListN.{length}
 use Rattle.ground.specs.Lists.{each}
-use Rattle.net.specs.Rec.{Rec}
+use Rattle.net.specs.Rec.{Rec, end}
 use Rattle.net.specs.File.{rec-bytes}
 use Rattle.pattern.specs.Pat.{compile, size}
+use Rattle.pattern.specs.Standing.{boxed}
+use Rattle.pattern.specs.declared.sets.Scanned.{Scanned}
+use Rattle.pattern.specs.declared.sets.Scanned.the-variants.{At, Wrong}
 use Rattle.pattern.specs.Reader.{Res, ok, form, deep}
 
 unfoldable pub bytes : List Rec → List ℕ
@@ -21,6 +25,22 @@ unfoldable pub sized : Res → ℕ
 sized (ok e p) = size p
 sized (form q) = 0
 sized (deep q) = 0
+
+-- whether the set whose `[` stands at i allows byte b; no byte where it is no set
+abbrev pub hitOf : Scanned → Bool
+hitOf (At e hit) = hit
+hitOf (Wrong q) = false
+
+unfoldable pub allowedAt : List ℕ → ℕ → ℕ → Bool
+allowedAt s i b = hitOf (boxed s i b)
+
+-- the HEAD of an automaton file
+abbrev pub headOf : ℕ → ℕ → List ℕ
+headOf tags count = 0x10 ∷ 1 ∷ tags ∷ count ∷ []
+
+-- a file: HEAD, the records of what was read, and END with that answer
+abbrev pub filed : Res → (size tags answer : ℕ) → List ℕ
+filed r size tags answer = headOf tags (size + 1) ++ (coded r 0 size ++ rec-bytes (end answer))
 
 -- there is room for those bytes from o on, and the records' numbers are bytes
 pub record Room (r : Res) (n f o len : ℕ) : Type 0 where
