@@ -1,1 +1,9 @@
 pub mod Pat
+pub mod Tests
+pub mod Sets
+pub mod Reader
+pub mod Grammar
+pub mod Maker
+pub mod Standing
+pub mod Measured
+pub mod Writing

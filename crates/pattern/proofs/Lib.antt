@@ -1,0 +1,13 @@
+pub mod Common
+pub mod Words
+pub mod SetSteps
+pub mod Masks
+pub mod Laws
+pub mod Sums
+pub mod Steps
+pub mod Sane
+pub mod Emit
+pub mod EmitSteps
+pub mod EmitSets
+pub mod Top
+pub mod Examples

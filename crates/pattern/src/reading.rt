@@ -1,0 +1,235 @@
+// Measuring a pattern text: alternatives, sequences and atoms call each other; the bytes left, paired with the grammar level, fall.
+ghost use mathlib.Core.Path.{_≡_};
+ghost use Prim.Native.Nat.{_≤_, _<_, _+_, max};
+ghost use lib.ListN.{length};
+ghost use Rattle.pattern.specs.Reader.{read, single, setAt, alts, seq, piece, atom};
+ghost use Rattle.pattern.specs.Measured.{measured, seqSum, altSum, repSum};
+use crate::sets::Scanned;
+use crate::sets::bracket;
+use crate::text::bars;
+use crate::text::look;
+use crate::text::repeats;
+use crate::text::stops_at;
+
+// How many records a pattern is, how many bytes they are, and its highest tag plus one.
+pub struct Sum {
+    pub size: usize,
+    pub width: usize,
+    pub tags: u8,
+}
+
+// What reading a part of a pattern finds.
+pub enum Read {
+    // The place after it, and its measures.
+    Ok { end: usize, sum: Sum },
+    Form(usize),
+    Deep(usize),
+}
+
+// The measures of one record.
+pub fn one(width: usize, tags: u8) -> Sum
+    ensures { λ r. ⌜ r ≡ record { size = 1; width = width; tags = tags } ⌝ }
+{
+    Sum {
+        size: 1,
+        width: width,
+        tags: tags,
+    }
+}
+
+pub fn larger(a: u8, b: u8) -> u8
+    ensures { λ r. ⌜ r ≡ max a b ⌝ }
+{
+    if a < b { b } else { a }
+}
+
+pub fn seq_sum(a: Sum, b: Sum) -> Sum
+    requires { ⌜ (a .size + b .size < 65536) × (a .width + b .width < 65536) ⌝ }
+    ensures { λ r. ⌜ r ≡ seqSum a b ⌝ }
+{
+    Sum {
+        size: a.size + b.size,
+        width: a.width + b.width,
+        tags: larger(a.tags, b.tags),
+    }
+}
+
+pub fn alt_sum(a: Sum, b: Sum) -> Sum
+    requires { ⌜ (a .size + b .size < 65536) × (a .width + b .width < 65536) ⌝ }
+    ensures { λ r. ⌜ r ≡ altSum a b ⌝ }
+{
+    Sum {
+        size: 1 + (a.size + b.size),
+        width: 3 + (a.width + b.width),
+        tags: larger(a.tags, b.tags),
+    }
+}
+
+pub fn rep_sum(a: Sum) -> Sum
+    requires { ⌜ (a .size < 65536) × (a .width < 65536) ⌝ }
+    ensures { λ r. ⌜ r ≡ repSum a ⌝ }
+{
+    Sum {
+        size: a.size + 1,
+        width: a.width + 3,
+        tags: a.tags,
+    }
+}
+
+// The set whose `[` stands there.
+pub fn set(s: &[u8], at: usize) -> Read
+    requires { ⌜ at < length (now s) ⌝ }
+    ensures { λ r. ⌜ r ≡ measured (setAt (now (s .entry)) at) ⌝ }
+{
+    match bracket(s, at, 0) {
+        Scanned::At { end, hit: _ } => Read::Ok {
+            end,
+            sum: one(34, 0),
+        },
+        Scanned::Wrong(q) => Read::Form(q),
+    }
+}
+
+// One atom that is no group.
+pub fn lone(s: &[u8], at: usize) -> Read
+    requires { ⌜ at ≤ length (now s) ⌝ }
+    ensures { λ r. ⌜ r ≡ measured (single (now (s .entry)) at) ⌝ }
+{
+    let c = look(s, at);
+    if c == 92 {
+        if look(s, at + 1) == 256 {
+            return Read::Form(at + 1);
+        }
+        return Read::Ok {
+            end: at + 2,
+            sum: one(4, 0),
+        };
+    }
+    if c == 64 {
+        let t = look(s, at + 1);
+        if 48 <= t {
+            if t <= 55 {
+                return Read::Ok {
+                    end: at + 2,
+                    sum: one(3, (t - 48 + 1) as u8),
+                };
+            }
+        }
+        return Read::Form(at + 1);
+    }
+    if c == 46 {
+        return Read::Ok {
+            end: at + 1,
+            sum: one(4, 0),
+        };
+    }
+    if c == 91 {
+        return set(s, at);
+    }
+    if bars(c) {
+        return Read::Form(at);
+    }
+    Read::Ok {
+        end: at + 1,
+        sum: one(4, 0),
+    }
+}
+
+pub fn alternatives(s: &[u8], at: usize, depth: usize) -> Read
+    requires { ⌜ (at ≤ length (now s)) × (depth ≤ 16) × (length (now s) ≤ 255) ⌝ }
+    ensures { λ r. ⌜ r ≡ measured (read (now (s .entry)) alts depth at) ⌝ }
+{
+    let first = sequence(s, at, depth);
+    let Read::Ok { end, sum } = first else {
+        return first;
+    };
+    if look(s, end) != 124 {
+        return first;
+    }
+    let rest = alternatives(s, end + 1, depth);
+    let Read::Ok {
+        end: end2,
+        sum: sum2,
+    } = rest
+    else {
+        return rest;
+    };
+    Read::Ok {
+        end: end2,
+        sum: alt_sum(sum, sum2),
+    }
+}
+
+pub fn sequence(s: &[u8], at: usize, depth: usize) -> Read
+    requires { ⌜ (at ≤ length (now s)) × (depth ≤ 16) × (length (now s) ≤ 255) ⌝ }
+    ensures { λ r. ⌜ r ≡ measured (read (now (s .entry)) seq depth at) ⌝ }
+{
+    let c = look(s, at);
+    if stops_at(c) {
+        return Read::Ok {
+            end: at,
+            sum: Sum {
+                size: 0,
+                width: 0,
+                tags: 0,
+            },
+        };
+    }
+    let first = repeated(s, at, depth);
+    let Read::Ok { end, sum } = first else {
+        return first;
+    };
+    let rest = sequence(s, end, depth);
+    let Read::Ok {
+        end: end2,
+        sum: sum2,
+    } = rest
+    else {
+        return rest;
+    };
+    Read::Ok {
+        end: end2,
+        sum: seq_sum(sum, sum2),
+    }
+}
+
+pub fn repeated(s: &[u8], at: usize, depth: usize) -> Read
+    requires { ⌜ (at ≤ length (now s)) × (depth ≤ 16) × (length (now s) ≤ 255) ⌝ }
+    ensures { λ r. ⌜ r ≡ measured (read (now (s .entry)) piece depth at) ⌝ }
+{
+    let one = atomic(s, at, depth);
+    let Read::Ok { end, sum } = one else {
+        return one;
+    };
+    let c = look(s, end);
+    if repeats(c) {
+        return Read::Ok {
+            end: end + 1,
+            sum: rep_sum(sum),
+        };
+    }
+    one
+}
+
+pub fn atomic(s: &[u8], at: usize, depth: usize) -> Read
+    requires { ⌜ (at ≤ length (now s)) × (depth ≤ 16) × (length (now s) ≤ 255) ⌝ }
+    ensures { λ r. ⌜ r ≡ measured (read (now (s .entry)) atom depth at) ⌝ }
+{
+    if look(s, at) != 40 {
+        return lone(s, at);
+    }
+    if depth == 16 {
+        return Read::Deep(at);
+    }
+    let inner = alternatives(s, at + 1, depth + 1);
+    let Read::Ok { end, sum } = inner else {
+        return inner;
+    };
+    if look(s, end) != 41 {
+        return Read::Form(end);
+    }
+    Read::Ok {
+        end: end + 1,
+        sum: sum,
+    }
+}

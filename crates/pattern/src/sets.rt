@@ -1,0 +1,295 @@
+// Bracket sets, read byte by byte.
+ghost use mathlib.Core.Path.{_≡_};
+ghost use mathlib.Core.Bool.{_||_};
+ghost use mathlib.Core.List.{List};
+ghost use Prim.Native.Nat.{ℕ, _≤_, _<_, _+_};
+ghost use lib.ListN.{getD, length, drop};
+ghost use Rattle.pattern.specs.Sets.{Item, against, seek, names, listed, lists, span, gained, item, ends, upto, setOn, after-name, class-of};
+ghost use Rattle.pattern.specs.Sets as steps;
+ghost use Rattle.pattern.specs.Tests.{among};
+ghost use Rattle.pattern.specs.Standing.{word, told, stands, Sound, Stepped, seen, boxed};
+
+// Where the text of a set stands, after its `[` or `[^`.
+pub enum Stand {
+    Fresh,
+    Ready,
+    Held(u8),
+    Quote,
+    Dash(u8),
+    DashQuote(u8),
+    // Within `[:name:]`, whose bytes after the `[` start at that place.
+    Name(usize),
+    Shut,
+    Bad,
+}
+
+// How bytes stand to the words `:name:]` of the classes: all of one, the beginning of one, or neither.
+pub enum Word {
+    Whole(u8),
+    Begun,
+    Nothing,
+}
+
+// What reading a set finds: the place after it and whether it has a byte, or the place of the fault.
+pub enum Scanned {
+    At { end: usize, hit: bool },
+    Wrong(usize),
+}
+
+const WORDS: [u8; 108] =
+    *b":alnum:]\0:alpha:]\0:blank:]\0:cntrl:]\0:digit:]\0:graph:]\0:lower:]\0:print:]\0:punct:]\0:space:]\0:upper:]\0:xdigit:]";
+
+// Byte t of the word of class k.
+pub fn word_byte(k: usize, t: usize) -> u8
+    requires { ⌜ (k < 12) × (t < 9) ⌝ }
+    ensures { λ r. ⌜ r ≡ getD (word k) t 0 ⌝ }
+{
+    WORDS[k * 9 + t]
+}
+
+// Only `xdigit` has six letters.
+pub fn word_len(k: usize) -> usize
+    requires { ⌜ k < 12 ⌝ }
+    ensures { λ r. ⌜ r ≡ length (word k) ⌝ }
+{
+    if k == 11 { 9 } else { 8 }
+}
+
+// The bytes w against the word of class k.
+pub fn compare(w: &[u8], k: usize) -> Word
+    requires { ⌜ k < 12 ⌝ }
+    ensures { λ r. ⌜ told r ≡ against (now (w .entry)) (word k) k ⌝ }
+{
+    let whole = word_len(k);
+    let mut t = 0usize;
+    while t < w.len() {
+        if whole <= t {
+            return Word::Nothing;
+        }
+        if w[t] != word_byte(k, t) {
+            return Word::Nothing;
+        }
+        t += 1;
+    }
+    if t == whole {
+        return Word::Whole(k as u8);
+    }
+    Word::Begun
+}
+
+// The bytes w against the words of all classes.
+pub fn find(w: &[u8]) -> Word
+    ensures { λ r. ⌜ told r ≡ seek (now (w .entry)) names 0 ⌝ }
+{
+    let mut k = 0usize;
+    while k < 12 {
+        let r = compare(w, k);
+        match r {
+            Word::Nothing => {}
+            _ => {
+                return r;
+            }
+        }
+        k += 1;
+    }
+    Word::Nothing
+}
+
+// An item begins with the byte c at i.
+pub fn begins(s: &[u8], i: usize, c: u8) -> Stand
+    requires { ⌜ i < length (now s) ⌝ }
+    ensures { λ r. ⌜ Stepped (now (s .entry)) i (item c) r ⌝ }
+{
+    if c == 92 {
+        return Stand::Quote;
+    }
+    if c == 91 {
+        return Stand::Name(i + 1);
+    }
+    if c == 93 {
+        return Stand::Bad;
+    }
+    if c == 45 {
+        return Stand::Bad;
+    }
+    if c == 94 {
+        return Stand::Bad;
+    }
+    Stand::Held(c)
+}
+
+// The set ends with the byte c at i, or an item begins.
+pub fn closes(s: &[u8], i: usize, c: u8) -> Stand
+    requires { ⌜ i < length (now s) ⌝ }
+    ensures { λ r. ⌜ Stepped (now (s .entry)) i (ends c) r ⌝ }
+{
+    if c == 93 {
+        return Stand::Shut;
+    }
+    begins(s, i, c)
+}
+
+// A span from a to d.
+pub fn reaches(s: &[u8], i: usize, a: u8, d: u8) -> Stand
+    requires { ⌜ i < length (now s) ⌝ }
+    ensures { λ r. ⌜ Stepped (now (s .entry)) i (upto a d) r ⌝ }
+{
+    if d < a {
+        return Stand::Bad;
+    }
+    Stand::Ready
+}
+
+// What follows a `-`: `[ ] - ^` stand for themselves only after `\`.
+pub fn dashes(s: &[u8], i: usize, a: u8, c: u8) -> Stand
+    requires { ⌜ i < length (now s) ⌝ }
+    ensures { λ r. ⌜ Stepped (now (s .entry)) i (setOn (steps.dash a) c) r ⌝ }
+{
+    if c == 92 {
+        return Stand::DashQuote(a);
+    }
+    if c == 91 {
+        return Stand::Bad;
+    }
+    if c == 93 {
+        return Stand::Bad;
+    }
+    if c == 45 {
+        return Stand::Bad;
+    }
+    if c == 94 {
+        return Stand::Bad;
+    }
+    reaches(s, i, a, c)
+}
+
+// The name that began at from goes on with the byte at i.
+pub fn names_on(s: &[u8], from: usize, i: usize) -> Stand
+    requires { ⌜ (i < length (now s)) × (from ≤ i) ⌝ }
+    ensures { λ r. ⌜ Stepped (now (s .entry)) i (setOn (stands (now (s .entry)) i (Stand.Name from)) (getD (now (s .entry)) i 0)) r ⌝ }
+{
+    let end = i + 1;
+    let w = &s[from..end];
+    match find(w) {
+        Word::Whole(_) => Stand::Ready,
+        Word::Begun => Stand::Name(from),
+        Word::Nothing => Stand::Bad,
+    }
+}
+
+// The byte at i leads on.
+pub fn step_on(s: &[u8], i: usize, st: Stand) -> Stand
+    requires { ⌜ (i < length (now s)) × Sound i st ⌝ }
+    ensures { λ r. ⌜ Stepped (now (s .entry)) i (setOn (stands (now (s .entry)) i st) (getD (now (s .entry)) i 0)) r ⌝ }
+{
+    let c = s[i];
+    match st {
+        Stand::Fresh => begins(s, i, c),
+        Stand::Ready => closes(s, i, c),
+        Stand::Held(a) => {
+            if c == 45 {
+                return Stand::Dash(a);
+            }
+            closes(s, i, c)
+        }
+        Stand::Quote => Stand::Held(c),
+        Stand::Dash(a) => dashes(s, i, a, c),
+        Stand::DashQuote(a) => reaches(s, i, a, c),
+        Stand::Name(from) => names_on(s, from, i),
+        Stand::Shut => Stand::Bad,
+        Stand::Bad => Stand::Bad,
+    }
+}
+
+// Whether b lies from a to d.
+pub fn between(a: u8, d: u8, b: u8) -> bool
+    ensures { λ r. ⌜ r ≡ lists b (span a d) ⌝ }
+{
+    if a <= b {
+        return b <= d;
+    }
+    false
+}
+
+// Whether the name that began at from ends at i, of a class that has b.
+pub fn class_has(s: &[u8], from: usize, i: usize, b: u8) -> bool
+    requires { ⌜ (i < length (now s)) × (from ≤ i) ⌝ }
+    ensures { λ r. ⌜ r ≡ listed b (gained (stands (now (s .entry)) i (Stand.Name from)) (getD (now (s .entry)) i 0)) ⌝ }
+{
+    let end = i + 1;
+    let w = &s[from..end];
+    match find(w) {
+        Word::Whole(k) => classes::in_class(k, b),
+        _ => false,
+    }
+}
+
+// Whether b is in the item that the byte at i shows to be complete.
+pub fn gains(s: &[u8], i: usize, st: Stand, b: u8) -> bool
+    requires { ⌜ (i < length (now s)) × Sound i st ⌝ }
+    ensures { λ r. ⌜ r ≡ listed b (gained (stands (now (s .entry)) i st) (getD (now (s .entry)) i 0)) ⌝ }
+{
+    let c = s[i];
+    match st {
+        Stand::Held(a) => {
+            if c == 45 {
+                return false;
+            }
+            between(a, a, b)
+        }
+        Stand::Dash(a) => {
+            if c == 92 {
+                return false;
+            }
+            between(a, c, b)
+        }
+        Stand::DashQuote(a) => between(a, c, b),
+        Stand::Name(from) => class_has(s, from, i, b),
+        _ => false,
+    }
+}
+
+pub fn or(a: bool, b: bool) -> bool
+    ensures { λ r. ⌜ r ≡ a || b ⌝ }
+{
+    if a {
+        return true;
+    }
+    b
+}
+
+// The rest of a set from i on, where b is among the items before it or not.
+pub fn scan(s: &[u8], i: usize, st: Stand, b: u8, hit: bool) -> Scanned
+    requires { ⌜ (i ≤ length (now s)) × Sound i st ⌝ }
+    ensures { λ r. ⌜ ((xs : List Item) → hit ≡ listed b xs → r ≡ seen b (steps.scan (drop i (now (s .entry))) i (stands (now (s .entry)) i st) xs)) ⌝ }
+{
+    if s.len() <= i {
+        return Scanned::Wrong(i);
+    }
+    let more = gains(s, i, st, b);
+    let found = or(hit, more);
+    let next = step_on(s, i, st);
+    match next {
+        Stand::Bad => Scanned::Wrong(i),
+        Stand::Shut => Scanned::At {
+            end: i + 1,
+            hit: found,
+        },
+        _ => scan(s, i + 1, next, b, found),
+    }
+}
+
+// Whether the set whose `[` stands at i allows b.
+pub fn bracket(s: &[u8], i: usize, b: u8) -> Scanned
+    requires { ⌜ i < length (now s) ⌝ }
+    ensures { λ r. ⌜ r ≡ boxed (now (s .entry)) i b ⌝ }
+{
+    if crate::text::look(s, i + 1) == 94 {
+        let r = scan(s, i + 2, Stand::Fresh, b, false);
+        return match r {
+            Scanned::At { end, hit } => Scanned::At { end, hit: !hit },
+            Scanned::Wrong(q) => Scanned::Wrong(q),
+        };
+    }
+    scan(s, i + 1, Stand::Fresh, b, false)
+}

@@ -1,0 +1,310 @@
+// Writing a pattern's records: what was measured, written in order with the numbers that follow.
+ghost use mathlib.Core.Path.{_≡_};
+ghost use mathlib.Core.List.{List};
+ghost use Prim.Native.Nat.{ℕ, _≤_, _<_, _+_};
+ghost use lib.ListN.{length};
+ghost use lib.Seq.{sets};
+ghost use Rattle.ground.specs.Lists.{Wrote};
+ghost use Rattle.net.specs.Rec.{range, mask, fork, tag, end};
+ghost use Rattle.net.specs.File.{rec-bytes};
+ghost use Rattle.pattern.specs.Pat.{startAt};
+ghost use Rattle.pattern.specs.Sets.{octet, octets};
+ghost use Rattle.pattern.specs.Reader.{read, single, setAt, alts, seq, piece, atom};
+ghost use Rattle.pattern.specs.Writing.{Room, coded, allowedAt, headOf, filed};
+use crate::reading::Read;
+use crate::reading::Sum;
+use crate::reading::alternatives;
+use crate::reading::atomic;
+use crate::reading::repeated;
+use crate::reading::sequence;
+use crate::reading::set;
+use crate::sets::Scanned;
+use crate::sets::bracket;
+use crate::text::bars;
+use crate::text::look;
+use crate::text::stops_at;
+
+// Where a piece of that many records starts that stands at n and is followed by f.
+pub fn start_at(size: usize, n: usize, f: usize) -> usize
+    ensures { λ r. ⌜ r ≡ startAt size n f ⌝ }
+{
+    if size == 0 { f } else { n }
+}
+
+pub fn put_fork(out: &mut [u8], o: usize, a: usize, b: usize) -> usize
+    requires { ⌜ (o + 3 ≤ length (now out)) × (a < 256) × (b < 256) ⌝ }
+    ensures { λ r. ⌜ Wrote (now (out .entry)) (now (out .exit)) o r (rec-bytes (fork a b)) ⌝ }
+{
+    out[o] = 19;
+    out[o + 1] = a as u8;
+    out[o + 2] = b as u8;
+    o + 3
+}
+
+pub fn put_tag(out: &mut [u8], o: usize, t: usize, next: usize) -> usize
+    requires { ⌜ (o + 3 ≤ length (now out)) × (t < 256) × (next < 256) ⌝ }
+    ensures { λ r. ⌜ Wrote (now (out .entry)) (now (out .exit)) o r (rec-bytes (tag t next)) ⌝ }
+{
+    out[o] = 20;
+    out[o + 1] = t as u8;
+    out[o + 2] = next as u8;
+    o + 3
+}
+
+pub fn put_range(out: &mut [u8], o: usize, lo: usize, hi: usize, next: usize) -> usize
+    requires { ⌜ (o + 4 ≤ length (now out)) × (lo < 256) × (hi < 256) × (next < 256) ⌝ }
+    ensures { λ r. ⌜ Wrote (now (out .entry)) (now (out .exit)) o r (rec-bytes (range lo hi next)) ⌝ }
+{
+    out[o] = 17;
+    out[o + 1] = lo as u8;
+    out[o + 2] = hi as u8;
+    out[o + 3] = next as u8;
+    o + 4
+}
+
+// Whether the set whose `[` stands there allows b.
+pub fn allows(s: &[u8], at: usize, b: u8) -> bool
+    requires { ⌜ at < length (now s) ⌝ }
+    ensures { λ r. ⌜ r ≡ allowedAt (now (s .entry)) at b ⌝ }
+{
+    match bracket(s, at, b) {
+        Scanned::At { end: _, hit } => hit,
+        Scanned::Wrong(_) => false,
+    }
+}
+
+// Eight bits of the set's MASK from byte b on, b's lowest.
+pub fn eight(s: &[u8], at: usize, b: usize) -> u8
+    requires { ⌜ (at < length (now s)) × (b + 8 ≤ 256) ⌝ }
+    ensures { λ r. ⌜ r ≡ octet (allowedAt (now (s .entry)) at) 8 b ⌝ }
+{
+    let mut bits = 0usize;
+    let mut j = 8usize;
+    while 0 < j {
+        j -= 1;
+        if allows(s, at, (b + j) as u8) {
+            bits = 2 * bits + 1;
+        } else {
+            bits = 2 * bits;
+        }
+    }
+    bits as u8
+}
+
+// The record of the set whose `[` stands there.
+pub fn put_mask(s: &[u8], at: usize, out: &mut [u8], o: usize, next: usize) -> usize
+    requires { ⌜ (at < length (now s)) × (o + 34 ≤ length (now out)) × (next < 256) ⌝ }
+    ensures { λ r. ⌜ Wrote (now (out .entry)) (now (out .exit)) o r (rec-bytes (mask (octets (allowedAt (now (s .entry)) at) 32 0) next)) ⌝ }
+{
+    out[o] = 18;
+    let mut k = 0usize;
+    while k < 32 {
+        out[o + 1 + k] = eight(s, at, 8 * k);
+        k += 1;
+    }
+    out[o + 33] = next as u8;
+    o + 34
+}
+
+// The set whose `[` stands there, or nothing where it is refused.
+pub fn emit_set(s: &[u8], at: usize, out: &mut [u8], o: usize, n: usize, f: usize) -> usize
+    requires { ⌜ (at < length (now s)) × Room (setAt (now s) at) n f o (length (now out)) ⌝ }
+    ensures { λ r. ⌜ Wrote (now (out .entry)) (now (out .exit)) o r (coded (setAt (now (s .entry)) at) n f) ⌝ }
+{
+    let found = set(s, at);
+    let Read::Ok { end: _, sum: _ } = found else {
+        return o;
+    };
+    put_mask(s, at, out, o, f)
+}
+
+// One atom that is no group.
+pub fn emit_lone(s: &[u8], at: usize, out: &mut [u8], o: usize, n: usize, f: usize) -> usize
+    requires { ⌜ (at ≤ length (now s)) × Room (single (now s) at) n f o (length (now out)) ⌝ }
+    ensures { λ r. ⌜ Wrote (now (out .entry)) (now (out .exit)) o r (coded (single (now (s .entry)) at) n f) ⌝ }
+{
+    let c = look(s, at);
+    if c == 92 {
+        let e = look(s, at + 1);
+        if e == 256 {
+            return o;
+        }
+        return put_range(out, o, e, e, f);
+    }
+    if c == 64 {
+        let t = look(s, at + 1);
+        if 48 <= t {
+            if t <= 55 {
+                return put_tag(out, o, t - 48, f);
+            }
+        }
+        return o;
+    }
+    if c == 46 {
+        return put_range(out, o, 0, 255, f);
+    }
+    if c == 91 {
+        return emit_set(s, at, out, o, n, f);
+    }
+    if bars(c) {
+        return o;
+    }
+    put_range(out, o, c, c, f)
+}
+
+pub fn emit_alternatives(
+    s: &[u8],
+    at: usize,
+    depth: usize,
+    out: &mut [u8],
+    o: usize,
+    n: usize,
+    f: usize,
+) -> usize
+    requires { ⌜ (at ≤ length (now s)) × (depth ≤ 16) × (length (now s) ≤ 255) × Room (read (now s) alts depth at) n f o (length (now out)) ⌝ }
+    ensures { λ r. ⌜ Wrote (now (out .entry)) (now (out .exit)) o r (coded (read (now (s .entry)) alts depth at) n f) ⌝ }
+{
+    let first = sequence(s, at, depth);
+    let Read::Ok { end, sum } = first else {
+        return o;
+    };
+    let size = sum.size;
+    if look(s, end) != 124 {
+        return emit_sequence(s, at, depth, out, o, n, f);
+    }
+    let rest = alternatives(s, end + 1, depth);
+    let Read::Ok { end: _, sum: sum2 } = rest else {
+        return o;
+    };
+    let size2 = sum2.size;
+    let x = start_at(size, n + 1, f);
+    let y = start_at(size2, n + 1 + size, f);
+    let a = put_fork(out, o, x, y);
+    let b = emit_sequence(s, at, depth, out, a, n + 1, f);
+    emit_alternatives(s, end + 1, depth, out, b, n + 1 + size, f)
+}
+
+pub fn emit_sequence(
+    s: &[u8],
+    at: usize,
+    depth: usize,
+    out: &mut [u8],
+    o: usize,
+    n: usize,
+    f: usize,
+) -> usize
+    requires { ⌜ (at ≤ length (now s)) × (depth ≤ 16) × (length (now s) ≤ 255) × Room (read (now s) seq depth at) n f o (length (now out)) ⌝ }
+    ensures { λ r. ⌜ Wrote (now (out .entry)) (now (out .exit)) o r (coded (read (now (s .entry)) seq depth at) n f) ⌝ }
+{
+    if stops_at(look(s, at)) {
+        return o;
+    }
+    let first = repeated(s, at, depth);
+    let Read::Ok { end, sum } = first else {
+        return o;
+    };
+    let size = sum.size;
+    let rest = sequence(s, end, depth);
+    let Read::Ok { end: _, sum: sum2 } = rest else {
+        return o;
+    };
+    let size2 = sum2.size;
+    let x = start_at(size2, n + size, f);
+    let a = emit_repeated(s, at, depth, out, o, n, x);
+    emit_sequence(s, end, depth, out, a, n + size, f)
+}
+
+pub fn emit_repeated(
+    s: &[u8],
+    at: usize,
+    depth: usize,
+    out: &mut [u8],
+    o: usize,
+    n: usize,
+    f: usize,
+) -> usize
+    requires { ⌜ (at ≤ length (now s)) × (depth ≤ 16) × (length (now s) ≤ 255) × Room (read (now s) piece depth at) n f o (length (now out)) ⌝ }
+    ensures { λ r. ⌜ Wrote (now (out .entry)) (now (out .exit)) o r (coded (read (now (s .entry)) piece depth at) n f) ⌝ }
+{
+    let one = atomic(s, at, depth);
+    let Read::Ok { end, sum } = one else {
+        return o;
+    };
+    let size = sum.size;
+    let c = look(s, end);
+    if c == 42 {
+        let x = start_at(size, n + 1, n);
+        let a = put_fork(out, o, x, f);
+        return emit_atomic(s, at, depth, out, a, n + 1, n);
+    }
+    if c == 43 {
+        let x = start_at(size, n, n + size);
+        let a = emit_atomic(s, at, depth, out, o, n, n + size);
+        return put_fork(out, a, x, f);
+    }
+    if c == 63 {
+        let x = start_at(size, n + 1, f);
+        let a = put_fork(out, o, x, f);
+        return emit_atomic(s, at, depth, out, a, n + 1, f);
+    }
+    emit_atomic(s, at, depth, out, o, n, f)
+}
+
+pub fn emit_atomic(
+    s: &[u8],
+    at: usize,
+    depth: usize,
+    out: &mut [u8],
+    o: usize,
+    n: usize,
+    f: usize,
+) -> usize
+    requires { ⌜ (at ≤ length (now s)) × (depth ≤ 16) × (length (now s) ≤ 255) × Room (read (now s) atom depth at) n f o (length (now out)) ⌝ }
+    ensures { λ r. ⌜ Wrote (now (out .entry)) (now (out .exit)) o r (coded (read (now (s .entry)) atom depth at) n f) ⌝ }
+{
+    if look(s, at) != 40 {
+        return emit_lone(s, at, out, o, n, f);
+    }
+    if depth == 16 {
+        return o;
+    }
+    let inner = alternatives(s, at + 1, depth + 1);
+    let Read::Ok { end, sum: _ } = inner else {
+        return o;
+    };
+    if look(s, end) != 41 {
+        return o;
+    }
+    emit_alternatives(s, at + 1, depth + 1, out, o, n, f)
+}
+
+pub fn put_head(out: &mut [u8], tags: u8, count: usize)
+    requires { ⌜ (4 ≤ length (now out)) × (count < 256) ⌝ }
+    ensures { λ _. ⌜ Wrote (now (out .entry)) (now (out .exit)) 0 4 (headOf tags count) ⌝ }
+{
+    out[0] = 16;
+    out[1] = 1;
+    out[2] = tags;
+    out[3] = count as u8;
+}
+
+pub fn put_end(out: &mut [u8], o: usize, answer: u8) -> usize
+    requires { ⌜ o + 2 ≤ length (now out) ⌝ }
+    ensures { λ r. ⌜ Wrote (now (out .entry)) (now (out .exit)) o r (rec-bytes (end answer)) ⌝ }
+{
+    out[o] = 21;
+    out[o + 1] = answer;
+    o + 2
+}
+
+// The automaton file of a text that was measured so, where END has that answer.
+pub fn put_file(s: &[u8], out: &mut [u8], sum: Sum, answer: u8) -> usize
+    requires { ⌜ (length (now s) ≤ 255) × (sum .size < 64) × Room (read (now s) alts 0 0) 0 (sum .size) 4 (length (now out)) × (4 + length (coded (read (now s) alts 0 0) 0 (sum .size)) + 2 ≤ length (now out)) ⌝ }
+    ensures { λ r. ⌜ Wrote (now (out .entry)) (now (out .exit)) 0 r (filed (read (now (s .entry)) alts 0 0) (sum .size) (sum .tags) answer) ⌝ }
+{
+    let size = sum.size;
+    let tags = sum.tags;
+    put_head(out, tags, size + 1);
+    let o = emit_alternatives(s, 0, 0, out, 4, 0, size);
+    put_end(out, o, answer)
+}
