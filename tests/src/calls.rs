@@ -7,6 +7,14 @@ const GUARD: usize = 32;
 
 extern "C" {
     fn cv_count(net: *const u8, net_len: usize, index: usize, count: *mut u32) -> u8;
+    fn cv_pattern(
+        text: *const u8,
+        text_len: usize,
+        out: *mut u8,
+        out_len: usize,
+        place: *mut usize,
+        length: *mut usize,
+    ) -> u8;
     fn cv_load(table: *const u8, table_len: usize) -> u8;
     fn cv_run(
         table: *const u8,
@@ -96,4 +104,23 @@ pub fn run(table: &[u8], line: &[u8]) -> (u8, u8, [i16; 8]) {
         cv_run(table.as_ptr(), table.len(), line.as_ptr(), line.len(), &mut answer, places.as_mut_ptr())
     };
     (code, answer, places)
+}
+
+/// What the pattern maker answers.
+#[derive(Debug, PartialEq)]
+pub struct Made {
+    pub code: u8,
+    pub place: usize,
+    pub net: Vec<u8>,
+}
+
+/// A pattern made into an automaton file, in an output of that length.
+pub fn pattern(text: &[u8], out_len: usize) -> Result<Made, String> {
+    let mut out = Guarded::new(out_len);
+    let room = out.part();
+    let (mut place, mut length) = (usize::MAX, usize::MAX);
+    let code = unsafe {
+        cv_pattern(text.as_ptr(), text.len(), room.as_mut_ptr(), room.len(), &mut place, &mut length)
+    };
+    Ok(Made { code, place, net: out.first(length)?.to_vec() })
 }

@@ -25,9 +25,8 @@ fn told(line: &str) -> Told {
         ["load", table] => Some(Ok(calls::load(&bytes(table)?).to_string())),
         ["run", table, line] => run(table, line),
         ["field", len, from, to] => field(len, from, to),
-        ["pattern", _, _] | ["build", _, _, _] | ["tagline", _] => {
-            Some(Ok(NOT_YET.to_string()))
-        }
+        ["pattern", text, len] => pattern(text, len),
+        ["build", _, _, _] | ["tagline", _] => Some(Ok(NOT_YET.to_string())),
         _ => None,
     }
 }
@@ -54,4 +53,9 @@ fn field(len: &str, from: &str, to: &str) -> Told {
 fn run(table: &str, line: &str) -> Told {
     let (code, answer, places) = calls::run(&bytes(table)?, &bytes(line)?);
     Some(Ok(format!("{code} {answer} {}", join(&places))))
+}
+
+fn pattern(text: &str, len: &str) -> Told {
+    let made = calls::pattern(&bytes(text)?, len.parse().ok()?);
+    Some(made.map(|m| format!("{} {} {}", m.code, m.place, hex(&m.net))))
 }

@@ -1,7 +1,7 @@
 //! The vector files: each case replayed through the calls.
 
 use crate::calls;
-use crate::text::{bytes, is};
+use crate::text::{bytes, hex, is};
 use std::fs;
 use std::path::{Path, PathBuf};
 
@@ -35,6 +35,7 @@ pub fn fault(case: &str) -> Option<String> {
         "G" => reading(&w),
         "L" => same(calls::load(&raw(w[1])), number(w[2])),
         "R" => run(&w),
+        "P" => pattern(&w),
         _ => Err("no such kind".to_string()),
     };
     match told {
@@ -71,6 +72,12 @@ fn reading(w: &[&str]) -> Fits {
 fn run(w: &[&str]) -> Fits {
     let places = std::array::from_fn(|i| number(w[5 + i]));
     same(calls::run(&raw(w[1]), &raw(w[2])), (number(w[3]), number(w[4]), places))
+}
+
+fn pattern(w: &[&str]) -> Fits {
+    let m = calls::pattern(&raw(w[1]), number(w[2]))?;
+    same((m.code, m.place, m.net.len()), (number(w[3]), number(w[4]), number(w[5])))?;
+    if is(w[6], &m.net) { Ok(()) } else { Err(format!("another net: {}", hex(&m.net))) }
 }
 
 fn field(w: &[&str]) -> Fits {

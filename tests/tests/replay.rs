@@ -16,6 +16,11 @@ fn counts() {
 }
 
 #[test]
+fn patterns() {
+    replay("P");
+}
+
+#[test]
 fn loads() {
     replay("L");
 }

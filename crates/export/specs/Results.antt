@@ -3,6 +3,10 @@ use mathlib.Core.List.{List}
 use Prim.Native.Nat.{ℕ}
 use lib.IntN.{ℤ}
 use Rattle.card.specs.Run.{Told}
+use Rattle.pattern.specs.declared.Made.{Made}
 
 abbrev pub told : ℕ → ℕ → List ℤ → Told
 told code answer places = record { code = code; answer = answer; places = places }
+
+abbrev pub made : ℕ → ℕ → ℕ → Made
+made code place length = record { code = code; place = place; length = length }

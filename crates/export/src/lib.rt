@@ -7,7 +7,8 @@ ghost use Rattle.net.specs.Count.{byteCount};
 ghost use Rattle.reading.specs.Reading.{cutBy};
 ghost use Rattle.card.specs.Judged.{Judged};
 ghost use Rattle.run.specs.Runs.{Runs};
-ghost use Rattle.export.specs.Results.{told};
+ghost use Rattle.export.specs.Results.{told, made};
+ghost use Rattle.pattern.specs.Maker.{given, maker};
 ghost use Rattle.export.specs.Copied.{Copies};
 
 // The number of the field call on these values.
@@ -78,4 +79,20 @@ pub extern "C" fn cv_run(table: &[u8], line: &[u8], answer: &mut u8, places: &mu
     *answer = r.answer;
     *places = p;
     r.code
+}
+
+// A pattern text made into an automaton file: the code, and beside it the place of a fault and how many bytes were written.
+#[no_mangle]
+pub extern "C" fn cv_pattern(
+    text: &[u8],
+    out: &mut [u8],
+    place: &mut usize,
+    length: &mut usize,
+) -> u8
+    ensures { λ r. ⌜ given (made r (now (place .exit)) (now (length .exit))) (now (out .exit)) ≡ maker (now (text .entry)) (now (out .entry)) ⌝ }
+{
+    let m = pattern::pattern(text, out);
+    *place = m.place;
+    *length = m.length;
+    m.code
 }
