@@ -10,3 +10,4 @@ pub mod Walk
 pub mod Flowing
 pub mod Situated
 pub mod Judging
+pub mod Sweeping

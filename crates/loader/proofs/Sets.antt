@@ -98,7 +98,7 @@ or-none a b r e f = or-bit a b r ∙ simp (e, f)
 or-split : (a b r : ℕ) → bitOf (bitOr a b) r ≡ 0 → (bitOf a r ≡ 0) × (bitOf b r ≡ 0)
 or-split a b r e = let m = sym (or-bit a b r) ∙ e in (omega arith, omega arith)
 
-or-one : (a b r : ℕ) → bitOf (bitOr a b) r ≡ 1 → (bitOf a r ≡ 1) ⊎ (bitOf b r ≡ 1)
+pub or-one : (a b r : ℕ) → bitOf (bitOr a b) r ≡ 1 → (bitOf a r ≡ 1) ⊎ (bitOf b r ≡ 1)
 or-one a b r e = pick-one (bit-two a r) (bit-two b r)
   where
     pick-one : (bitOf a r ≡ 0) ⊎ (bitOf a r ≡ 1) → (bitOf b r ≡ 0) ⊎ (bitOf b r ≡ 1) → (bitOf a r ≡ 1) ⊎ (bitOf b r ≡ 1)
@@ -113,7 +113,7 @@ bit-le n r = mod-lt (n / 2 ^ r) (lit< tt)
 or-left : (a b r : ℕ) → bitOf a r ≡ 1 → bitOf (bitOr a b) r ≡ 1
 or-left a b r e = omega (arith, or-bit a b r, bit-le b r)
 
-or-right : (a b r : ℕ) → bitOf b r ≡ 1 → bitOf (bitOr a b) r ≡ 1
+pub or-right : (a b r : ℕ) → bitOf b r ≡ 1 → bitOf (bitOr a b) r ≡ 1
 or-right a b r e = omega (arith, or-bit a b r, bit-le a r)
 
 pub free-written : (l : List Cmd) (k r : ℕ) → bitOf (written k l) r ≡ 0 → Free r l × (bitOf k r ≡ 0)

@@ -14,8 +14,7 @@ use Rattle.card.specs.Decode.{cmdsAt, rowAt, rowsAt, afterAt, afterRows, sitAt,
 use Rattle.card.specs.declared.RowItem.{RowItem}
 use Rattle.card.specs.declared.RowItem.the-variants.{Leads, Ends}
 use Rattle.card.proofs.Rows.{rows-step, row-whole}
-use Rattle.loader.specs.Flow.{Spread, Closed, Words, Pass, Loud, row, end, RowsOf, RowsSpread, Ready, RowAsks, FieldAsks, Reads, bitOf, written, flow, startSet}
-use Rattle.loader.proofs.Passes.{none, then-more, then-same}
+use Rattle.loader.specs.Flow.{Loud, row, end, RowsOf, Ready, RowAsks, FieldAsks, Reads, bitOf, written, flow, startSet}
 use Rattle.loader.proofs.Shape.{not-in, in-table, next-in, sit-of}
 
 -- ---- the situations that a table's bytes hold
@@ -72,7 +71,7 @@ module _ {s places : List ℕ} (ready : Ready s places) where
   pub count-most : getD s 4 0 ≤ 96
   count-most = omega (arith, table-long s, ready .formed .most)
 
-  in-sits : {q : ℕ} → q < getD s 4 0 → q < length (tableAt s .sits)
+  pub in-sits : {q : ℕ} → q < getD s 4 0 → q < length (tableAt s .sits)
   in-sits l = omega (arith, table-long s)
 
   pub room-here : {q : ℕ} → q < getD s 4 0 → getD places q 0 + 14 ≤ length s
@@ -91,46 +90,13 @@ module _ {s places : List ℕ} (ready : Ready s places) where
   }
 
   -- no row and no field where there is no situation
-  no-row : {q : ℕ} → getD s 4 0 ≤ q → (x : Row) → In x (sit (tableAt s) q .rows) → ⊥
+  pub no-row : {q : ℕ} → getD s 4 0 ≤ q → (x : Row) → In x (sit (tableAt s) q .rows) → ⊥
   no-row {q} h x i =
       not-in (subst (λ (y : Sit). In x (y .rows)) (List·getD-eq-default (tableAt s .sits) noSit (let m = table-long s in omega arith)) i)
 
   no-field : {q : ℕ} → getD s 4 0 ≤ q → (r : ℕ) → In r (sit (tableAt s) q .fields) → ⊥
   no-field {q} h r i =
       not-in (subst (λ (y : Sit). In r (y .fields)) (List·getD-eq-default (tableAt s .sits) noSit (let m = table-long s in omega arith)) i)
-
--- ---- a pass over all rows, situation by situation
-
--- the situations before q have flowed
-abbrev pub Swept : List ℕ → List ℕ → List ℕ → Bool → ℕ → Type 0
-Swept s may m changed q = Pass (tableAt s) may m changed ((p : ℕ) → p < q → (x : Row) → In x (sit (tableAt s) p .rows) → Spread may p x)
-
-pub swept-none : (s may : List ℕ) → Words may → Swept s may may false 0
-swept-none s may w = none w (λ p l. absurd (omega arith))
-
-module _ {s places : List ℕ} (ready : Ready s places) {may m : List ℕ} {changed : Bool} {q : ℕ} (w : Swept s may m changed q) where
-  -- the rows of one more
-  pub swept-next : {m′ : List ℕ} (b now : Bool) → q < getD s 4 0 → Pass (tableAt s) m m′ b (RowsSpread s (getD places q 0 + 10) q m)
-      → ((b ≡ true) × (now ≡ true)) ⊎ ((b ≡ false) × (now ≡ changed)) → Swept s may m′ now (q + 1)
-  swept-next {m′} b now l p (inl e) =
-      subst (λ (t : Bool). Swept s may m′ t (q + 1)) (sym (e .1)) (then-more w (subst (λ (t : Bool). Pass (tableAt s) m m′ t (RowsSpread s (getD places q 0 + 10) q m)) (e .0) p))
-  swept-next {m′} b now l p (inr e) =
-      subst (λ (t : Bool). Swept s may m′ t (q + 1)) (sym (e .1))
-      (then-same w (subst (λ (t : Bool). Pass (tableAt s) m m′ t (RowsSpread s (getD places q 0 + 10) q m)) (e .0) p)
-      (λ same all here. below-more (λ p. (x : Row) → In x (sit (tableAt s) p .rows) → Spread may p x) q all
-      (λ x i. subst (λ (y : List ℕ). Spread y q x) same (here x (subst (λ (y : List Row). In x y) (sym (rows-here ready l)) i)))))
-
-  pub swept-all : getD s 4 0 ≤ q → Pass (tableAt s) may m changed (Closed (tableAt s) may)
-  swept-all h =
-      then-same w (none {S = Unit {0}} (w .words) tt)
-      (λ _ all _ p x i. ⊎-elim (λ (k : p < q). all p k x i) (λ (k : getD s 4 0 ≤ p). absurd (no-row ready k x i)) (below p))
-    where
-      below : (p : ℕ) → (p < q) ⊎ (getD s 4 0 ≤ p)
-      below p = by (decLt p q)
-        where
-          by : Dec (p < q) → (p < q) ⊎ (getD s 4 0 ≤ p)
-          by (yes k) = inl k
-          by (no k) = inr (omega arith)
 
 -- ---- what the situations read
 

@@ -76,30 +76,53 @@ total (x ∷ l) = ones x + total l
 abbrev pub Grounded : Table → (start k : ℕ) → List ℕ → Type 0
 Grounded T start k may = (q r : ℕ) → bitOf (getD may q 0) r ≡ 1 → Way T start r k q
 
--- a row of situation q adds nothing to the set of the situation that it leads to
-abbrev pub Spread : List ℕ → ℕ → Row → Type 0
-Spread may q x = (r : ℕ) → bitOf (getD may q 0) r ≡ 1 → bitOf (written 0 (x .cmds)) r ≡ 0 → bitOf (getD may (x .next) 0) r ≡ 1
+-- what a set has and a row does not write is in the set of the situation that the row leads to
+abbrev pub Spread : ℕ → List ℕ → Row → Type 0
+Spread x may row = (r : ℕ) → bitOf x r ≡ 1 → bitOf (written 0 (row .cmds)) r ≡ 0 → bitOf (getD may (row .next) 0) r ≡ 1
 
 -- no row adds a register
 abbrev pub Closed : Table → List ℕ → Type 0
-Closed T may = (q : ℕ) (x : Row) → In x (sit T q .rows) → Spread may q x
+Closed T may = (q : ℕ) (x : Row) → In x (sit T q .rows) → Spread (getD may q 0) may x
 
 -- a set for each of 96 situations, in 64 bits
 pub record Words (may : List ℕ) : Type 0 where
   pub long : length may ≡ 96
   pub small : (q : ℕ) → getD may q 0 < 2 ^ 64
 
--- what a pass over some rows does: where nothing changed, `Still` is known
-pub record Pass (T : Table) (may may′ : List ℕ) (changed : Bool) (Still : Type 0) : Type 0 where
+-- all that one set has
+abbrev pub Sub : ℕ → ℕ → Type 0
+Sub x y = (r : ℕ) → bitOf x r ≡ 1 → bitOf y r ≡ 1
+
+-- what rows do to the sets: they keep what they have, and what they gain has a way
+pub record Pass (T : Table) (may may′ : List ℕ) : Type 0 where
   pub words : Words may′
-  pub keeps : (q r : ℕ) → bitOf (getD may q 0) r ≡ 1 → bitOf (getD may′ q 0) r ≡ 1
+  pub keeps : (q : ℕ) → Sub (getD may q 0) (getD may′ q 0)
   pub ways : (start : ℕ) → Grounded T start (total may) may → Grounded T start (total may′) may′
-  pub still : changed ≡ false → (may′ ≡ may) × Still
-  pub grows : changed ≡ true → total may < total may′
+
+-- the set of situation q flowed along the rows at a place
+pub record Flowed (s : List ℕ) (at q : ℕ) (may may′ : List ℕ) : Type 0 where
+  pub pass : Pass (tableAt s) may may′
+  pub spread : (x : Row) → In x (rowsAt s at) → Spread (getD may q 0) may′ x
+
+-- the sets so far, and for each situation what its rows were last given
+pub record Round (T : Table) (may seen : List ℕ) : Type 0 where
+  pub words : Words may
+  pub seen-words : Words seen
+  pub first : Sub (startSet T) (getD may 0 0)
+  pub ways : Grounded T (startSet T) (total may) may
+  pub had : (q : ℕ) → Sub (getD seen q 0) (getD may q 0)
+  pub sent : (q : ℕ) (x : Row) → In x (sit T q .rows) → Spread (getD seen q 0) may x
+
+-- a round over all situations: where nothing changed, no row adds a register; else more was given
+pub record Sweep (T : Table) (may seen seen₀ : List ℕ) (changed : Bool) : Type 0 where
+  pub round : Round T may seen
+  pub still : changed ≡ false → Closed T may
+  pub kept : total seen₀ ≤ total seen
+  pub grows : changed ≡ true → total seen₀ < total seen
 
 -- the least sets that the start set and the rows allow: each register in them has a way of at most 6144 rows, and none is missing
 pub record Settled (T : Table) (may : List ℕ) : Type 0 where
-  pub first : (r : ℕ) → bitOf (startSet T) r ≡ 1 → bitOf (getD may 0 0) r ≡ 1
+  pub first : Sub (startSet T) (getD may 0 0)
   pub closed : Closed T may
   pub grounded : Grounded T (startSet T) 6144 may
 
@@ -115,10 +138,6 @@ pub record RowsOf (s : List ℕ) (at q : ℕ) : Type 0 where
   pub here : rowsAt s at ≡ sit (tableAt s) q .rows
   pub inside : q < 96
   pub leads : (x : Row) → In x (rowsAt s at) → x .next < 96
-
--- the sets flow along no row at a place
-abbrev pub RowsSpread : List ℕ → ℕ → ℕ → List ℕ → Type 0
-RowsSpread s at q may = (x : Row) → In x (rowsAt s at) → Spread may q x
 
 -- the form is right, and the places are those of the situations
 pub record Ready (s places : List ℕ) : Type 0 where

@@ -5,7 +5,7 @@ ghost use lib.ListN.{length};
 ghost use Rattle.card.specs.Decode.{tableAt};
 ghost use Rattle.card.specs.Judged.{Judged};
 ghost use Rattle.loader.specs.Judges.{Judges};
-ghost use Rattle.loader.specs.Flow.{Listed, flow, Words, Pass, Closed, Settled, Loud, EmptyRead, Says, RowsOf, RowsSpread, Ready, RowAsks, FieldAsks, bitOf};
+ghost use Rattle.loader.specs.Flow.{Listed, flow, Words, Flowed, Round, Sweep, Settled, Loud, EmptyRead, Says, RowsOf, Ready, RowAsks, FieldAsks, bitOf};
 use card::Order;
 use card::RowItem;
 
@@ -68,42 +68,41 @@ fn flowed(old: u64, x: u64, k: u64) -> u64
     old | ((x | k) ^ k)
 }
 
-// One pass over the rows at a place, those of situation q.
-fn flow_rows(s: &[u8], at: usize, q: usize, may: &mut [u64; 96]) -> bool
+// The set of situation q flows along the rows at a place, which are its rows.
+fn flow_rows(s: &[u8], at: usize, q: usize, may: &mut [u64; 96])
     requires { ⌜ RowsOf (now s) at q × Words (now may) ⌝ }
-    ensures { λ r. ⌜ Pass (tableAt (now (s .entry))) (now (may .entry)) (now (may .exit)) r (RowsSpread (now (s .entry)) at q (now (may .entry))) ⌝ }
+    ensures { λ _. ⌜ Flowed (now (s .entry)) at q (now (may .entry)) (now (may .exit)) ⌝ }
 {
-    let mut changed = false;
+    let x = may[q];
     let mut i = at;
     loop {
         let row = card::read_row(s, i);
         let RowItem::Leads(_, _, next) = row else {
-            return changed;
+            return;
         };
         let g = list_at(s, i + 4);
         let n = next as usize;
-        let old = may[n];
-        let new = flowed(old, may[q], g.writes);
-        if new != old {
-            may[n] = new;
-            changed = true;
-        }
+        let new = flowed(may[n], x, g.writes);
+        may[n] = new;
         i = g.end;
     }
 }
 
-// One pass over all rows.
-fn sweep(s: &[u8], places: &[usize; 96], may: &mut [u64; 96]) -> bool
-    requires { ⌜ Ready (now s) (now places) × Words (now may) ⌝ }
-    ensures { λ r. ⌜ Pass (tableAt (now (s .entry))) (now (may .entry)) (now (may .exit)) r (Closed (tableAt (now (s .entry))) (now (may .entry))) ⌝ }
+// One round: each situation whose set has grown since its rows were last given it gives it to them again.
+fn sweep(s: &[u8], places: &[usize; 96], may: &mut [u64; 96], seen: &mut [u64; 96]) -> bool
+    requires { ⌜ Ready (now s) (now places) × Round (tableAt (now s)) (now may) (now seen) ⌝ }
+    ensures { λ r. ⌜ Sweep (tableAt (now (s .entry))) (now (may .exit)) (now (seen .exit)) (now (seen .entry)) r ⌝ }
 {
     let count = card::sit_count(s);
     let mut changed = false;
     let mut q: usize = 0;
     while q < count {
-        let at = places[q];
-        let c = flow_rows(s, at + 10, q, may);
-        if c {
+        let old = seen[q];
+        let all = old | may[q];
+        if all != old {
+            seen[q] = all;
+            let at = places[q];
+            flow_rows(s, at + 10, q, may);
             changed = true;
         }
         q += 1;
@@ -111,17 +110,18 @@ fn sweep(s: &[u8], places: &[usize; 96], may: &mut [u64; 96]) -> bool
     changed
 }
 
-// The registers that may be empty in each situation: pass after pass until no row adds one.
+// The registers that may be empty in each situation: round after round until no row adds one.
 fn settle(s: &[u8], places: &[usize; 96]) -> [u64; 96]
     requires { ⌜ Ready (now s) (now places) ⌝ }
     ensures { λ r. ⌜ Settled (tableAt (now (s .entry))) r ⌝ }
 {
     let mut may = [0u64; 96];
+    let mut seen = [0u64; 96];
     let g = list_at(s, 5);
     may[0] = flowed(0, 0xffff_ffff_ffff_ffff, g.writes);
     let mut again = true;
     while again {
-        again = sweep(s, places, &mut may);
+        again = sweep(s, places, &mut may, &mut seen);
     }
     may
 }
