@@ -20,7 +20,8 @@ use Rattle.paths.proofs.Member.{Bool-cases}
 use Rattle.paths.proofs.Builder.{situation-test}
 use Rattle.explore.specs.Items.{net, Inside, Formed, lands}
 use Rattle.explore.specs.States.{Below}
-use Rattle.explore.specs.Explore.{Sit, Alike, bytes}
+use Rattle.explore.specs.Lists.{span}
+use Rattle.explore.specs.Explore.{Sit, Alike}
 use Rattle.explore.proofs.Reading.{net-inside}
 use Rattle.explore.proofs.Biting.{bite-some, bite-none}
 use Rattle.explore.proofs.Exploration.{once-snoc}
@@ -52,13 +53,13 @@ module _ {F offs : List ℕ} (w : Formed F offs) (b : ℕ) (a : Alike (net F off
   unfolding next step
   next-alike = ap (λ v. number (standing (net F offs) (close (tagged (length (registers l))) (net F offs) v))) (each-same w b (b - 1) (a .same) (length (registers l)) l h)
 
-  pub skipped : (found : List Sit) → once same-situation found (map (λ b. next (net F offs) b l) (bytes 0 (b + 1))) ≡ once same-situation found (map (λ b. next (net F offs) b l) (bytes 0 b))
+  pub skipped : (found : List Sit) → once same-situation found (map (λ b. next (net F offs) b l) (span 0 (b + 1))) ≡ once same-situation found (map (λ b. next (net F offs) b l) (span 0 b))
   skipped found =
       let p = a .positive in
       let e : b ≡ b - 1 + 1 = omega arith in
       let last = once-snoc found (λ b. next (net F offs) b l) (b - 1) in
-      let now = ap (λ n. once same-situation found (map (λ b. next (net F offs) b l) (bytes 0 n))) e ∙ last in
-      once-snoc found (λ b. next (net F offs) b l) b ∙ (λ i. put same-situation (now i) (next-alike i)) ∙ twice (once same-situation found (map (λ b. next (net F offs) b l) (bytes 0 (b - 1)))) (next (net F offs) (b - 1) l) ∙ sym now
+      let now = ap (λ n. once same-situation found (map (λ b. next (net F offs) b l) (span 0 n))) e ∙ last in
+      once-snoc found (λ b. next (net F offs) b l) b ∙ (λ i. put same-situation (now i) (next-alike i)) ∙ twice (once same-situation found (map (λ b. next (net F offs) b l) (span 0 (b - 1)))) (next (net F offs) (b - 1) l) ∙ sym now
     where
       self : (x : Sit) → same-situation x x ≡ true
       self x = situation-test x x .1 refl

@@ -18,6 +18,7 @@ use Rattle.paths.specs.Numbering.{among}
 use Rattle.paths.proofs.Member.{Bool-cases}
 use Rattle.paths.proofs.Builder.{thread-eq, thread-refl, situation-test}
 use Rattle.explore.specs.States.{opt, tags-of, thread-of, threads-of}
+use Rattle.explore.specs.Lists.{position}
 use Rattle.explore.specs.Slots.{row, thread-at, threads-at, slot, slots, Put-at, Stored, Placed}
 use Rattle.explore.specs.declared.Entry.{Entry}
 use Rattle.explore.specs.declared.Found.{Found}
@@ -286,17 +287,46 @@ among-one l w j (suc n) (suc k) b h =
     or-true true = refl
     or-true false = refl
 
-pub placed-at : (w : List ℕ) (count : ℕ) (l : List (Thread Tags)) (j : ℕ) → j < count → same-situation l (slot w j) ≡ true → Placed w count l j
-placed-at w count l j b h = record { within = omega arith; found = λ _. (among-one l w 0 count j b (ap (λ v. same-situation l (slot w v)) (zero-add j) ∙ h), h); missing = λ e. absurd (omega arith) }
-  where
-    zero-add : (j : ℕ) → 0 + j ≡ j
-    zero-add j = omega arith
+-- the first slot of n from j on that holds l
+position-at : (w : List ℕ) (l : List (Thread Tags)) (n j i : ℕ) → i < n → ((k : ℕ) → k < i → same-situation l (slot w (j + k)) ≡ false) → same-situation l (slot w (j + i)) ≡ true → position same-situation l (slots w j n) ≡ i
+unfolding slots
+position-at w l zero j i b h e = absurd (omega arith)
+position-at w l (suc n) j zero b h e = let z : j + 0 ≡ j = omega arith in rw (ap (λ v. same-situation l (slot w v)) (sym z) ∙ e)
+position-at w l (suc n) j (suc i) b h e =
+    let z : j + 0 ≡ j = omega arith in
+    let y : (k : ℕ) → j + 1 + k ≡ j + suc k = λ k. omega arith in
+    rw (ap (λ v. same-situation l (slot w v)) (sym z) ∙ h 0 (omega arith))
+    (ap suc (position-at w l n (j + 1) i (omega arith) (λ k c. ap (λ v. same-situation l (slot w v)) (y k) ∙ h (suc k) (omega arith)) (ap (λ v. same-situation l (slot w v)) (y i) ∙ e)))
+
+position-none : (w : List ℕ) (l : List (Thread Tags)) (n j : ℕ) → ((k : ℕ) → k < n → same-situation l (slot w (j + k)) ≡ false) → position same-situation l (slots w j n) ≡ n
+unfolding slots
+position-none w l zero j h = refl
+position-none w l (suc n) j h =
+    let z : j + 0 ≡ j = omega arith in
+    let y : (k : ℕ) → j + 1 + k ≡ j + suc k = λ k. omega arith in
+    rw (ap (λ v. same-situation l (slot w v)) (sym z) ∙ h 0 (omega arith))
+    (ap suc (position-none w l n (j + 1) (λ k c. ap (λ v. same-situation l (slot w v)) (y k) ∙ h (suc k) (omega arith))))
+
+none-add : (j : ℕ) → 0 + j ≡ j
+none-add j = omega arith
+
+pub placed-at : (w : List ℕ) (count : ℕ) (l : List (Thread Tags)) (j : ℕ) → j < count → ((k : ℕ) → k < j → same-situation l (slot w k) ≡ false) → same-situation l (slot w j) ≡ true → Placed w count l j
+placed-at w count l j b n h =
+    record {
+      within = omega arith;
+      found = λ _. (among-one l w 0 count j b (ap (λ v. same-situation l (slot w v)) (none-add j) ∙ h), h);
+      missing = λ e. absurd (omega arith);
+      first = sym (position-at w l count 0 j b (λ k c. ap (λ v. same-situation l (slot w v)) (none-add k) ∙ n k c) (ap (λ v. same-situation l (slot w v)) (none-add j) ∙ h));
+    }
 
 pub placed-none : (w : List ℕ) (count : ℕ) (l : List (Thread Tags)) (j : ℕ) → count ≤ j → ((k : ℕ) → k < j → same-situation l (slot w k) ≡ false) → Placed w count l count
-placed-none w count l j b h = record { within = omega arith; found = λ c. absurd (omega arith); missing = λ _. among-none l w 0 count (λ k c. ap (λ v. same-situation l (slot w v)) (zero-add k) ∙ h k (omega arith)) }
-  where
-    zero-add : (j : ℕ) → 0 + j ≡ j
-    zero-add j = omega arith
+placed-none w count l j b h =
+    record {
+      within = omega arith;
+      found = λ c. absurd (omega arith);
+      missing = λ _. among-none l w 0 count (λ k c. ap (λ v. same-situation l (slot w v)) (none-add k) ∙ h k (omega arith));
+      first = sym (position-none w l count 0 (λ k c. ap (λ v. same-situation l (slot w v)) (none-add k) ∙ h k (omega arith)));
+    }
 
 pub none-more : (w : List ℕ) (l : List (Thread Tags)) (j : ℕ) → ((k : ℕ) → k < j → same-situation l (slot w k) ≡ false) → same-situation l (slot w j) ≡ false → (k : ℕ) → k < j + 1 → same-situation l (slot w k) ≡ false
 none-more w l j h e k c = by (Bool-cases (eqb k j))

@@ -14,12 +14,13 @@ use Rattle.paths.specs.Numbering.{among, put, once, numbered, explored}
 use Rattle.paths.proofs.Member.{Bool-cases}
 use Rattle.paths.proofs.Exploring.{Prefix}
 use Rattle.paths.proofs.Builder.{situation-test, found-first}
-use Rattle.explore.specs.Explore.{bytes, Sit, first, here, partly, Stops, at-start, at-byte, Too-many-registers, Too-many-situations}
+use Rattle.explore.specs.Lists.{span}
+use Rattle.explore.specs.Explore.{Sit, first, here, partly, Stops, at-start, at-byte, Too-many-registers, Too-many-situations}
 use Rattle.explore.proofs.Exploration.{once-snoc, first-more}
 
 -- document 01's list, from inputs of at most n bytes
 abbrev pub all : Net → ℕ → List Sit
-all A n = numbered same-situation (bytes 0 256) (situation A) n
+all A n = numbered same-situation (span 0 256) (situation A) n
 
 pub record Registers-refused (A : Net) : Type 0 where
   pub n : ℕ
@@ -53,13 +54,13 @@ grows-once [] l = grows-self l
 grows-once (s ∷ k) l = grows-on (grows-put l s) (grows-once k (put same-situation l s))
 
 -- bytes below b, then b, then the rest
-grows-bytes : (f : ℕ → Sit) (l : List Sit) (b m : ℕ) → Grows (once same-situation l (map f (bytes 0 b))) (once same-situation l (map f (bytes 0 (b + m))))
-grows-bytes f l b zero = let e : b ≡ b + 0 = omega arith in subst (λ v. Grows (once same-situation l (map f (bytes 0 b))) (once same-situation l (map f (bytes 0 v)))) e (grows-self _)
-grows-bytes f l b (suc m) =
+grows-span : (f : ℕ → Sit) (l : List Sit) (b m : ℕ) → Grows (once same-situation l (map f (span 0 b))) (once same-situation l (map f (span 0 (b + m))))
+grows-span f l b zero = let e : b ≡ b + 0 = omega arith in subst (λ v. Grows (once same-situation l (map f (span 0 b))) (once same-situation l (map f (span 0 v)))) e (grows-self _)
+grows-span f l b (suc m) =
     let e : b + m + 1 ≡ b + suc m = omega arith in
-    grows-on (grows-bytes f l b m)
-    (subst (λ v. Grows (once same-situation l (map f (bytes 0 (b + m)))) (once same-situation l (map f (bytes 0 v)))) e
-    (rw (once-snoc l f (b + m)) (grows-put (once same-situation l (map f (bytes 0 (b + m)))) (f (b + m)))))
+    grows-on (grows-span f l b m)
+    (subst (λ v. Grows (once same-situation l (map f (span 0 (b + m)))) (once same-situation l (map f (span 0 v)))) e
+    (rw (once-snoc l f (b + m)) (grows-put (once same-situation l (map f (span 0 (b + m)))) (f (b + m)))))
 
 found-at : (s : Sit) (l : List Sit) → among same-situation s l ≡ true → (k : ℕ) × ((k < length l) × (getD l k [] ≡ s))
 found-at s [] e = absurd (let z : _≡_ {A = ℕ} 0 1 = cc in omega arith)
@@ -85,11 +86,11 @@ module _ (A : Net) (i b : ℕ) (in-it : i < length (first A i)) (c : b < 256) wh
   reaches : Grows (put same-situation (partly A i b) (next A b (here A i))) (all A (i + 1))
   reaches =
       let e : b + 1 + (255 - b) ≡ 256 = omega arith in
-      let p = found-first A (bytes 0 256) (i + 1) in
+      let p = found-first A (span 0 256) (i + 1) in
       grows-on
       (subst (λ v. Grows (put same-situation (partly A i b) (next A b (here A i))) v) (sym (first-more A i in-it))
-      (subst (λ v. Grows (put same-situation (partly A i b) (next A b (here A i))) (once same-situation (first A i) (map (λ b. next A b (here A i)) (bytes 0 v)))) e
-      (rw (← once-snoc (first A i) (λ b. next A b (here A i)) b) (grows-bytes (λ b. next A b (here A i)) (first A i) (b + 1) (255 - b)))))
+      (subst (λ v. Grows (put same-situation (partly A i b) (next A b (here A i))) (once same-situation (first A i) (map (λ b. next A b (here A i)) (span 0 v)))) e
+      (rw (← once-snoc (first A i) (λ b. next A b (here A i)) b) (grows-span (λ b. next A b (here A i)) (first A i) (b + 1) (255 - b)))))
       p
 
 grown-at : {l k : List Sit} → Grows l k → (i : ℕ) → i < length l → getD k i [] ≡ getD l i []
@@ -100,7 +101,7 @@ grown-length {l} g = omega (arith, ap length (g .whole), length-append l (g .mor
 
 pub registers-stop : (A : Net) → Stops A Too-many-registers → Registers-refused A
 registers-stop A (at-start h) =
-    let p = found-first A (bytes 0 256) 0 in
+    let p = found-first A (span 0 256) 0 in
     let g : Grows (situation A [] ∷ []) (all A 0) = begins A (p .more) (p .whole) in
     record { n = 0; k = 0; among-first = omega arith; there = omega (arith, grown-length g); needs = subst (λ v. 64 < length (registers v)) (sym (grown-at g 0 (omega arith))) (h .needs) }
   where

@@ -7,6 +7,7 @@ use lib.ListN.{length, getD}
 use Prim.Native.Nat.{_-_}
 use Rattle.net.specs.Rec.{Net, rec}
 use Rattle.paths.specs.Situation.{bite}
+use Rattle.explore.specs.Lists.{span}
 use Rattle.explore.specs.Items.{lands}
 use Rattle.paths.specs.Search.{Thread}
 use Rattle.paths.specs.Registers.{Tags, registers, next, situation}
@@ -15,11 +16,6 @@ use Rattle.paths.specs.Numbering.{among, put, once, explored}
 use Rattle.explore.specs.States.{Below}
 use Rattle.explore.specs.Slots.{slot, slots}
 use Rattle.explore.specs.declared.Tried.{Tried}
-
--- the bytes from k on
-unfoldable pub bytes : ℕ → ℕ → List ℕ
-bytes k zero = []
-bytes k (suc n) = k ∷ bytes (k + 1) n
 
 abbrev pub Sit : Type 0
 Sit = List (Thread Tags)
@@ -57,20 +53,20 @@ pub record Tries (A : Net) (N : ℕ) (w w′ : List ℕ) (count : ℕ) (l : Sit)
 -- all bytes from l, after `found`
 pub record Expands (A : Net) (N : ℕ) (w w′ : List ℕ) (count : ℕ) (l : Sit) (a : Tried) : Type 0 where
   pub size : length w′ ≡ length w
-  pub fine : a .answer ≡ 0 → Kept N w′ (a .count) × (slots w′ 0 (a .count) ≡ once same-situation (slots w 0 count) (map (λ b. next A b l) (bytes 0 256)))
-  pub regs : a .answer ≡ 10 → (b : ℕ) × ((b < 256) × Too-many-registers (once same-situation (slots w 0 count) (map (λ b. next A b l) (bytes 0 b))) (next A b l))
-  pub sits : a .answer ≡ 11 → (b : ℕ) × ((b < 256) × Too-many-situations (once same-situation (slots w 0 count) (map (λ b. next A b l) (bytes 0 b))) (next A b l))
+  pub fine : a .answer ≡ 0 → Kept N w′ (a .count) × (slots w′ 0 (a .count) ≡ once same-situation (slots w 0 count) (map (λ b. next A b l) (span 0 256)))
+  pub regs : a .answer ≡ 10 → (b : ℕ) × ((b < 256) × Too-many-registers (once same-situation (slots w 0 count) (map (λ b. next A b l) (span 0 b))) (next A b l))
+  pub sits : a .answer ≡ 11 → (b : ℕ) × ((b < 256) × Too-many-situations (once same-situation (slots w 0 count) (map (λ b. next A b l) (span 0 b))) (next A b l))
   pub one-of : (a .answer ≡ 0 → ⊥) → (a .answer ≡ 10 → ⊥) → a .answer ≡ 11
 
 -- the first situations, once those before i have been gone through; the i-th of them; and then those that its bytes below b lead to
 abbrev pub first : Net → ℕ → List Sit
-first A i = explored same-situation (bytes 0 256) (next A) (situation A []) i
+first A i = explored same-situation (span 0 256) (next A) (situation A []) i
 
 abbrev pub here : Net → ℕ → Sit
 here A i = getD (first A i) i []
 
 abbrev pub partly : Net → ℕ → ℕ → List Sit
-partly A i b = once same-situation (first A i) (map (λ b. next A b (here A i)) (bytes 0 b))
+partly A i b = once same-situation (first A i) (map (λ b. next A b (here A i)) (span 0 b))
 
 -- where the exploration stops: at the situation of the empty input, or at one that a byte leads to
 pub data Stops (A : Net) (P : List Sit → Sit → Type 0) : Type 0 where

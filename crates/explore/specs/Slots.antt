@@ -9,6 +9,7 @@ use Rattle.paths.specs.Search.{Thread}
 use Rattle.paths.specs.Registers.{Tags}
 use Rattle.paths.specs.Equal.{same-situation}
 use Rattle.paths.specs.Numbering.{among}
+use Rattle.explore.specs.Lists.{position}
 use Rattle.explore.specs.States.{tags-of, thread-of}
 use Rattle.explore.specs.declared.Entry.{Entry}
 
@@ -48,3 +49,4 @@ pub record Placed (w : List ℕ) (count : ℕ) (l : List (Thread Tags)) (a : ℕ
   pub within : a ≤ count
   pub found : a < count → (among same-situation l (slots w 0 count) ≡ true) × (same-situation l (slot w a) ≡ true)
   pub missing : a ≡ count → among same-situation l (slots w 0 count) ≡ false
+  pub first : a ≡ position same-situation l (slots w 0 count)

@@ -29,7 +29,7 @@ same-requires c κs = (omega (arith, c .before .before .before .pre .0), c .befo
 
 -- src/lib.rt:511:13
 returns : tie.Need-returns Inv-loop μ-loop
-returns c = placed-at _ _ _ (c .before .before .before .loop .j) (omega arith) (sym (c .before .same .ensures) ∙ c .if1 .taken)
+returns c = placed-at _ _ _ (c .before .before .before .loop .j) (omega arith) (c .before .before .before .loop .inv .1) (sym (c .before .same .ensures) ∙ c .if1 .taken)
 
 -- src/lib.rt:513:9
 add-j : tie.Need-add-j Inv-loop μ-loop
