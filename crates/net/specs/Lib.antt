@@ -1,1 +1,2 @@
 pub mod Rec
+pub mod File
