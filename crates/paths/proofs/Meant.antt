@@ -12,8 +12,8 @@ use Rattle.paths.specs.Ways.{Move, Way, eaten, Admissible, Earlier, empt
 use Rattle.ground.specs.Lists.{each}
 use Rattle.paths.specs.Search.{Thread, ons, add, firsts}
 use Rattle.paths.specs.Situation.{every, threads}
-use Rattle.paths.specs.Registers.{Tags, stands, standing, begin, after}
-use Rattle.paths.specs.Meaning.{Stands, Sorted, Once, Situation, with-tags, waiting}
+use Rattle.paths.specs.Registers.{Tags, stands, standing, begin, after, number, situation}
+use Rattle.paths.specs.Meaning.{Stands, Sorted, Once, Situation, with-tags, waiting, meant}
 use Rattle.paths.proofs.Member.{mem-or-not, mem-ons, ons-mem, ons-append, in-left, in-right}
 use Rattle.paths.proofs.Closure.{add-known, add-new, firsts-in, firsts-has}
 use Rattle.paths.proofs.Heart.{heart}
@@ -267,3 +267,8 @@ waiting-after A w =
     ∙ ap (λ l. lifts (λ h. h .tags) (lifts (λ p. held p empty-handed) (standing A l))) (sym (heart onto A w (start A w ∷ []) ∙ ap (λ l. firsts [] l) (append-nil (all A w))))
     ∙ ap (λ l. lifts (λ h. h .tags) l) (sym (after-paths A w))
     ∙ tags-back (length w) (after A 0 (begin A) w)
+
+-- THE SITUATION: defined with no search, and computed by one
+pub situation-meant : (A : Net) (w : List ℕ) → situation A w ≡ meant A w
+unfolding situation meant
+situation-meant A w = ap number (sym (waiting-after A w))

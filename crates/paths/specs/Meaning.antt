@@ -8,7 +8,7 @@ use Rattle.net.specs.Rec.{Net, rec}
 use Rattle.paths.specs.Ways.{Move, Way, eaten, Admissible, Earlier, empty-handed, held}
 use Rattle.paths.specs.Search.{Thread, ons, firsts}
 use Rattle.paths.specs.Situation.{every}
-use Rattle.paths.specs.Registers.{Tags, stands, standing}
+use Rattle.paths.specs.Registers.{Tags, stands, standing, number}
 
 -- An admissible path that consumes w and then stands on r, a RANGE, a MASK or an END.
 pub record Stands (A : Net) (w : List ℕ) (ms : List Move) (r : ℕ) : Type 0 where
@@ -40,3 +40,9 @@ with-tags (s ∷ l) = record { on = s .on; had = held (s .had) empty-handed .tag
 
 unfoldable pub waiting : Net → List ℕ → List (Thread Tags)
 waiting A w = with-tags (standing A (firsts [] (every (λ m p. p ++ (m ∷ [])) A w (record { on = 0; had = [] }))))
+
+-- "After some input, the situation is the ordered list of RANGE, MASK and END records that admissible paths stand on, each once, by its earliest path,
+-- earliest path first. [..] Registers are numbered from 0 by first appearance, records in list order and tags ascending within a record."
+-- `Registers.situation` is the same, computed byte by byte (`Laws.situation-right`).
+unfoldable pub meant : Net → List ℕ → List (Thread Tags)
+meant A w = number (waiting A w)
