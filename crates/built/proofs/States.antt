@@ -1,0 +1,95 @@
+-- The situations of a net that fits: each is that of some input, a byte leads from one to another, and the first is that of the empty input.
+-- And a net fits exactly as document 01's two refusals say. Assumes nothing.
+use mathlib.Core.Path.{_≡_, refl, sym, ap, _∙_, subst}
+use mathlib.Core.Logic.{_⊎_, inl, inr}
+use mathlib.Core.List.{List, [], _∷_, _++_, List·Memᴰ, List·Memᴰ·head, List·Memᴰ·tail, List·Memᴰ·cases-cons}
+use Prim.Native.Nat.{ℕ, zero, suc, _+_, _≤_, _<_, max}
+use native.Mathlib.Omega.{arith}
+use lib.ListN.{length, getD}
+use Rattle.net.specs.Rec.{Net}
+use Rattle.net.specs.File.{Legal}
+use Rattle.paths.specs.Registers.{registers, situation, next}
+use Rattle.paths.specs.Equal.{same-situation}
+use Rattle.paths.specs.Numbering.{numbered}
+use Rattle.paths.specs.Limits.{bytes, all, first, Closes, Over-registers, Over-situations}
+use Rattle.paths.proofs.Common.{Prefix, ≼-trans, ≼-length, ≼-mem, mem-getD, getD-mem}
+use Rattle.paths.proofs.Next.{situation-next}
+use Rattle.paths.proofs.Exploring.{numbered-≼, numbered-of}
+use Rattle.paths.proofs.Builder.{situation-test, found-first, found-all}
+use Rattle.paths.proofs.Limits.{bytes-below, numbered-zero, first-97, closed-every, one-of-three}
+use Rattle.card.specs.Run.{AllBytes}
+use Rattle.explore.specs.Lists.{position}
+use Rattle.build.specs.Card.{State, states, need, most}
+use Rattle.built.specs.Fits.{Fits}
+use Rattle.built.proofs.Common.{position-at, span-bytes, input-of, of-input, bytes-more}
+
+-- ---- the states are document 01's numbered situations
+
+pub states-all : (A : Net) → states A ≡ all A 96
+unfolding states
+states-all A = ap (λ B. numbered same-situation B (situation A) 96) (span-bytes 0 256)
+
+-- each is that of some input
+pub state-of : (A : Net) (s : State) → List·Memᴰ s (states A) → (w : List ℕ) × AllBytes w × (situation A w ≡ s)
+state-of A s m =
+    let r = numbered-of same-situation situation-test (bytes 0 256) (next A) (situation A) (situation-next A) 96 (rw (states-all A) at m) in
+    (r .0, of-input (r .0) (λ b k. bytes-below 0 256 (r .1 b k)), r .2)
+
+-- the first is that of the empty input
+pub first-state : (A : Net) → (0 < length (states A)) × (getD (states A) 0 [] ≡ situation A [])
+first-state A = let r = first-97 A (numbered-zero A) (omega arith) in rw (states-all A) r
+
+module _ {tags : ℕ} {A : Net} (fits : Fits tags A) where
+  pub next-state : {s : State} {b : ℕ} → List·Memᴰ s (states A) → b < 256 → List·Memᴰ (next A b s) (states A)
+  next-state {s} {b} m h =
+      let r = state-of A s m in
+      subst (λ v. List·Memᴰ v (states A)) (situation-next A (r .0) b ∙ ap (next A b) (r .2)) (fits .complete (r .0 ++ (b ∷ [])) (bytes-more (r .0) b (r .1) h))
+
+-- ---- registers: the most that any needs
+
+pub most-bound : (s : State) {l : List State} → List·Memᴰ s l → need s ≤ most l
+most-bound s (List·Memᴰ·head {x = t} {xs = l} e) = let q = ap need e in omega arith
+most-bound s (List·Memᴰ·tail {x = t} {xs = l} m) = let q = most-bound s m in omega arith
+
+pub most-least : (n : ℕ) (l : List State) → ((s : State) → List·Memᴰ s l → need s ≤ n) → most l ≤ n
+most-least n [] h = omega arith
+most-least n (s ∷ l) h =
+    let a = h s (List·Memᴰ·head refl) in
+    let b = most-least n l (λ t m. h t (List·Memᴰ·tail m)) in
+    omega arith
+
+-- ---- THE LIMITS
+
+-- an exploration that closes has found them all
+pub closes-fits : {tags : ℕ} {A : Net} {n : ℕ} → Legal tags A → Closes A n → Fits tags A
+closes-fits {tags} {A} {n} legal c =
+    record {
+      legal = legal;
+      few = rw (states-all A) (omega (arith, ≼-length whole, c .whole, c .few));
+      slim = slim;
+      complete = λ w h. rw (states-all A) (≼-mem some (closed-every A n shut w (input-of w h)));
+    }
+  where
+    shut : length (first A n) ≤ n
+    shut = omega (arith, c .whole)
+
+    whole : Prefix (all A 96) (first A n)
+    whole = found-all A (bytes 0 256) n shut 96
+
+    some : Prefix (first A n) (all A 96)
+    some = ≼-trans (found-first A (bytes 0 256) n) (numbered-≼ same-situation situation-test (bytes 0 256) (next A) (situation A) (situation-next A) n 96 (c .few))
+
+    slim : (s : State) → List·Memᴰ s (states A) → need s ≤ 64
+    slim s m =
+        let r = mem-getD [] (≼-mem whole (rw (states-all A) at m)) in
+        let q = c .small (r .0) (omega (arith, r .1 .0, c .whole)) in
+        omega (arith, ap need (r .1 .1))
+
+-- neither REGISTERS nor SITUATIONS
+pub within-limits : {tags : ℕ} {A : Net} → Legal tags A → ¬ Over-registers A → ¬ Over-situations A → Fits tags A
+within-limits {tags} {A} legal r s = by (one-of-three A)
+  where
+    by : ((n : ℕ) × Closes A n) ⊎ (Over-registers A ⊎ (Over-situations A × (¬ Over-registers A))) → Fits tags A
+    by (inl c) = closes-fits legal (c .1)
+    by (inr (inl o)) = absurd (r o)
+    by (inr (inr o)) = absurd (s (o .0))
