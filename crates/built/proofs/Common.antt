@@ -6,8 +6,9 @@ use mathlib.Core.List.{List, [], _∷_, _++_, map, List·Memᴰ, List·Memᴰ·h
 use Prim.Native.Nat.{ℕ, zero, suc, _+_, _≤_, _<_}
 use native.Mathlib.Nat.{le-of-suc-le-suc, not-suc-le-zero}
 use native.Mathlib.Omega.{arith}
-use lib.ListN.{length, getD}
-use lib.Dec.{T, eqb, eqb→eq, eqb-refl}
+use lib.ListN.{length, getD, replicate}
+use lib.Dec.{T, eqb, eqb→eq, eqb-refl, leb, leb→le, le→leb}
+use Rattle.ground.specs.Pick.{pick}
 use Rattle.paths.specs.Equal.{same-list}
 use Rattle.paths.specs.Limits.{bytes, Input}
 use Rattle.paths.proofs.Member.{Bool-cases, T-of, of-T}
@@ -46,6 +47,11 @@ getD-map f [] i d e h = absurd (not-suc-le-zero h)
 getD-map f (x ∷ l) zero d e h = refl
 getD-map f (x ∷ l) (suc i) d e h = getD-map f l i d e (le-of-suc-le-suc h)
 
+pub replicate-in : {A : Type 0} {a x : A} (n : ℕ) → List·Memᴰ x (replicate n a) → x ≡ a
+replicate-in zero m = absurd (elim m [ ])
+replicate-in (suc n) (List·Memᴰ·head e) = e
+replicate-in (suc n) (List·Memᴰ·tail m) = replicate-in n m
+
 -- ---- the place of an element
 
 module _ {S : Type 0} (eq : S → S → Bool) (test : (s t : S) → (eq s t ≡ true → s ≡ t) × (s ≡ t → eq s t ≡ true)) where
@@ -83,3 +89,23 @@ of-input (b ∷ w) h = (h b (List·Memᴰ·head refl), of-input w (λ c m. h c (
 pub bytes-more : (w : List ℕ) (b : ℕ) → AllBytes w → b < 256 → AllBytes (w ++ (b ∷ []))
 bytes-more [] b h k = (k, tt)
 bytes-more (c ∷ w) b h k = (h .0, bytes-more w b (h .1) k)
+
+-- ---- choices by a test
+
+pub pick-true : {A : Type 0} {c : Bool} (a b : A) → c ≡ true → pick c a b ≡ a
+unfolding pick
+pick-true a b e = rw e
+
+pub pick-false : {A : Type 0} {c : Bool} (a b : A) → c ≡ false → pick c a b ≡ b
+unfolding pick
+pick-false a b e = rw e
+
+pub leb-yes : (m n : ℕ) → m ≤ n → leb m n ≡ true
+leb-yes m n h = of-T (leb m n) (le→leb m n h)
+
+pub leb-no : (m n : ℕ) → n < m → leb m n ≡ false
+leb-no m n h = by (Bool-cases (leb m n))
+  where
+    by : (leb m n ≡ true) ⊎ (leb m n ≡ false) → leb m n ≡ false
+    by (inl e) = let q = leb→le m n (T-of e) in absurd (omega arith)
+    by (inr e) = e

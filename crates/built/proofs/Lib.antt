@@ -1,2 +1,6 @@
 pub mod Common
 pub mod States
+pub mod Commands
+pub mod Rows
+pub mod Ends
+pub mod Formed
