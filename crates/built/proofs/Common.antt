@@ -64,8 +64,9 @@ module _ {S : Type 0} (eq : S → S → Bool) (test : (s t : S) → (eq s t ≡ 
       by r true e = (omega arith, sym (test s t .0 e))
       by r false e = (omega (arith, r .0), r .1)
 
-  pub position-head : (s : S) (l : List S) → position eq s (s ∷ l) ≡ 0
-  position-head s l = rw (test s s .1 refl)
+  pub position-zero : (d s : S) (l : List S) → 0 < length l → getD l 0 d ≡ s → position eq s l ≡ 0
+  position-zero d s [] h e = absurd (omega arith)
+  position-zero d s (t ∷ l) h e = rw (test s t .1 (sym e))
 
 -- ---- spans and bytes
 

@@ -4,3 +4,4 @@ pub mod Commands
 pub mod Rows
 pub mod Ends
 pub mod Formed
+pub mod Runs
