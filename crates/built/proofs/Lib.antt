@@ -5,3 +5,4 @@ pub mod Rows
 pub mod Ends
 pub mod Formed
 pub mod Runs
+pub mod Answers
