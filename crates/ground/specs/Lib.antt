@@ -1,2 +1,5 @@
 pub mod Pick
 pub mod Lists
+pub mod Bits
+pub mod Count
+pub mod Place
