@@ -1,2 +1,4 @@
 pub mod Rec
 pub mod File
+pub mod Items
+pub mod Calls

@@ -1,0 +1,5 @@
+pub mod Common
+pub mod Reading
+pub mod Whole
+pub mod Laying
+pub mod Inside
