@@ -1,2 +1,5 @@
 pub mod Laws
 pub mod Rows
+pub mod Situations
+pub mod Common
+pub mod Decoded

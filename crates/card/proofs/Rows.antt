@@ -42,7 +42,7 @@ past-ge (Move t s) at f h = omega (arith, h 3)
 past-ge (Put t) at f h = omega (arith, h 2)
 past-ge Stop at f h = omega arith
 
-after-ge : (s : List ℕ) (n at : ℕ) → at ≤ afterN n s at
+pub after-ge : (s : List ℕ) (n at : ℕ) → at ≤ afterN n s at
 unfolding afterN
 after-ge s zero at = omega arith
 after-ge s (suc n) at = past-ge (cmdAt s at) at _ (λ d. after-ge s n (at + d))

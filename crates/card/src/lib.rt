@@ -1,7 +1,9 @@
 // The table file: its items read at a place.
 ghost use mathlib.Core.Path.{_≡_};
 ghost use Prim.Native.Nat.{_≤_};
-ghost use Rattle.card.specs.Decode.{cmdAt, rowAt, afterAt};
+ghost use Rattle.card.specs.Decode.{cmdAt, rowAt, afterAt, afterRows};
+ghost use Rattle.card.specs.Places.{noted};
+ghost use lib.ListN.{getD};
 
 // The command at a place. Anything that is no whole legal command ends the list.
 pub enum Order {
@@ -86,5 +88,51 @@ pub fn skip_cmds(s: &[u8], at: usize) -> usize
                 return i;
             }
         }
+    }
+}
+
+// The place after the rows at a place, their commands included.
+pub fn skip_rows(s: &[u8], at: usize) -> usize
+    ensures { λ r. ⌜ (r ≡ afterRows (now (s .entry)) at) × (at ≤ r) ⌝ }
+{
+    let mut i = at;
+    loop {
+        let row = read_row(s, i);
+        match row {
+            RowItem::Leads(_, _, _) => {
+                i = skip_cmds(s, i + 4);
+            }
+            RowItem::Ends => {
+                return i;
+            }
+        }
+    }
+}
+
+// How many situations the HEAD counts.
+pub fn sit_count(s: &[u8]) -> usize
+    ensures { λ r. ⌜ (r ≡ getD (now (s .entry)) 4 0) × (r ≤ 255) ⌝ }
+{
+    if s.len() <= 4 {
+        return 0;
+    }
+    ground::wide(s[4])
+}
+
+// The places of the situations, as many as `at` has room for. What lies past them in `at` stays as it was.
+pub fn places(s: &[u8], at: &mut [usize])
+    ensures { λ _. ⌜ now (at .exit) ≡ noted (now (at .entry)) (now (s .entry)) ⌝ }
+{
+    let count = sit_count(s);
+    let room = at.len();
+    let mut p = skip_cmds(s, 5);
+    let mut k: usize = 0;
+    while k < count {
+        if room <= k {
+            return;
+        }
+        at[k] = p;
+        p = skip_rows(s, p + 10);
+        k += 1;
     }
 }

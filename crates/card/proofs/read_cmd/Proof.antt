@@ -1,3 +1,4 @@
+-- `card::read_cmd` meets its contract: each return by the tests that led there. Assumes nothing.
 use Rattle.ground.specs.Pick.{pick}
 use Rattle.card.specs.Decode.{cmdAt}
 use Prim.Native.Nat.{_+_}
@@ -6,8 +7,6 @@ use borrow.Author.Tests.{eq-eqb, le-leb, le-ltb, lt-leb, lt-ltb, ne-eqb}
 use borrow.Author.Needs.{needs}
 use Rattle.card.proofs.read_cmd.Statement.{statement}
 use Rattle.card.proofs.read_cmd.Tie as tie
-use Rattle.card.proofs.read_cmd.Reads as reads
-use Rattle.card.proofs.read_cmd.Lts as lts
 
 returns : tie.Need-returns
 unfolding pick cmdAt

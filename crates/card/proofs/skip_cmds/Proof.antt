@@ -1,17 +1,14 @@
-use Prim.Native.Nat.{ℕ, _-_, _≤_}
+-- `card::skip_cmds` meets its contract: what follows the commands passed is what followed the first. Assumes nothing.
+use Prim.Native.Nat.{_-_, _≤_}
 use mathlib.Core.Path.{_≡_, refl, sym, _∙_}
 use native.Mathlib.Omega.{arith}
 use borrow.Author.Needs.{needs}
 use lib.ListN.{length}
-use Rattle.ground.specs.Pick.{pick}
 use Rattle.card.specs.Decode.{afterAt}
 use Rattle.card.proofs.Laws.{move-facts, put-facts}
 use Rattle.card.proofs.Rows.{after-step}
 use Rattle.card.proofs.skip_cmds.Statement.{statement}
 use Rattle.card.proofs.skip_cmds.Tie as tie
-use Rattle.card.proofs.skip_cmds.Reads as reads
-use Rattle.card.proofs.skip_cmds.Lts as lts
-use Rattle.card.proofs.read_cmd.Reads as read-cmd-reads
 
 abbrev Inv-loop : tie.InvT-loop
 Inv-loop s at i₀ i = (afterAt s i ≡ afterAt s at) × (at ≤ i)
