@@ -178,7 +178,7 @@ module _ (A : Net) (w : List ℕ) where
 
 -- ---- there is one answer at most
 
-asym : {p q : List Move} → Earlier p q → Earlier q p → ⊥
+pub asym : {p q : List Move} → Earlier p q → Earlier q p → ⊥
 asym (later d) (later e) = asym d e
 
 module _ (A : Net) where

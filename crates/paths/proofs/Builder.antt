@@ -27,13 +27,13 @@ Tests {A} f = (x y : A) → (f x y ≡ true → x ≡ y) × (x ≡ y → f x y �
 from-refl : {A : Type 0} (f : A → A → Bool) → ((x y : A) → f x y ≡ true → x ≡ y) → ((x : A) → f x x ≡ true) → Tests f
 from-refl f g h x y = (g x y, λ e. rw (← e) (h x))
 
-tag-eq : (x y : Option ℕ) → same-tag x y ≡ true → x ≡ y
+pub tag-eq : (x y : Option ℕ) → same-tag x y ≡ true → x ≡ y
 tag-eq none none e = refl
 tag-eq none (some q) e = let z : _≡_ {A = ℕ} 0 1 = cc in absurd (omega arith)
 tag-eq (some p) none e = let z : _≡_ {A = ℕ} 0 1 = cc in absurd (omega arith)
 tag-eq (some p) (some q) e = ap some (eqb→eq p q (T-of e))
 
-tag-refl : (x : Option ℕ) → same-tag x x ≡ true
+pub tag-refl : (x : Option ℕ) → same-tag x x ≡ true
 tag-refl none = refl
 tag-refl (some p) = of-T (eqb p p) (eqb-refl p)
 

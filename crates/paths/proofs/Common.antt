@@ -1,5 +1,5 @@
 -- Lists: `each`, and one list that is the beginning of another. Assumes nothing.
-use mathlib.Core.Path.{_≡_, refl, sym, ap, _∙_}
+use mathlib.Core.Path.{_≡_, refl, sym, ap, ap₂, _∙_, subst}
 use mathlib.Core.Logic.{_⊎_, inl, inr}
 use mathlib.Core.List.{List, [], _∷_, _++_, map, append-nil, append-assoc, List·Memᴰ, List·Memᴰ·head, List·Memᴰ·tail, List·Memᴰ·cases-cons, List·Memᴰ·append-cases, Memᴰ·append-left, Memᴰ·append-right}
 use Prim.Native.Nat.{ℕ, zero, suc, _+_, _≤_, _<_}
@@ -121,3 +121,27 @@ ordered-each {B} {C} R Q g (s ∷ l) o h c = ordered-append Q (g s) (each g l) (
   where
     cross : (a b : C) → List·Memᴰ a (g s) → List·Memᴰ b (each g l) → Q a b
     cross a b m k = let r = each-cases g l k in c s (r .0) (o .0 (r .0) (r .1)) a b m (r .2)
+
+-- two lists in a strict order with the same members are one list
+pub one-order : {B : Type 0} (R : B → B → Type 0) → ((s t : B) → R s t → R t s → ⊥) → (l k : List B) → Ordered R l → Ordered R k
+    → ((t : B) → List·Memᴰ t l → List·Memᴰ t k) → ((t : B) → List·Memᴰ t k → List·Memᴰ t l) → l ≡ k
+one-order R asym [] [] o q f g = refl
+one-order R asym [] (y ∷ k) o q f g = absurd (elim (g y (List·Memᴰ·head refl)) [ ])
+one-order R asym (x ∷ l) [] o q f g = absurd (elim (f x (List·Memᴰ·head refl)) [ ])
+one-order {B} R asym (x ∷ l) (y ∷ k) o q f g = by (λ e a b. one-order R asym l k (o .1) (q .1) a b) (List·Memᴰ·cases-cons (f x (List·Memᴰ·head refl))) (List·Memᴰ·cases-cons (g y (List·Memᴰ·head refl)))
+  where
+    both : (y ≡ x → ((t : B) → List·Memᴰ t l → List·Memᴰ t k) → ((t : B) → List·Memᴰ t k → List·Memᴰ t l) → l ≡ k) → x ≡ y → x ∷ l ≡ y ∷ k
+    both ih e = ap₂ (λ h r. h ∷ r) e (ih (sym e) (λ t m. left t m (List·Memᴰ·cases-cons (f t (List·Memᴰ·tail m)))) (λ t m. right t m (List·Memᴰ·cases-cons (g t (List·Memᴰ·tail m)))))
+      where
+        left : (t : B) → List·Memᴰ t l → (t ≡ y) ⊎ List·Memᴰ t k → List·Memᴰ t k
+        left t m (inr n) = n
+        left t m (inl p) = let r : R x x = subst (λ v. R x v) (p ∙ sym e) (o .0 t m) in absurd (asym x x r r)
+
+        right : (t : B) → List·Memᴰ t k → (t ≡ x) ⊎ List·Memᴰ t l → List·Memᴰ t l
+        right t m (inr n) = n
+        right t m (inl p) = let r : R y y = subst (λ v. R y v) (p ∙ e) (q .0 t m) in absurd (asym y y r r)
+
+    by : (y ≡ x → ((t : B) → List·Memᴰ t l → List·Memᴰ t k) → ((t : B) → List·Memᴰ t k → List·Memᴰ t l) → l ≡ k) → (x ≡ y) ⊎ List·Memᴰ x k → (y ≡ x) ⊎ List·Memᴰ y l → x ∷ l ≡ y ∷ k
+    by ih (inl e) n = both ih e
+    by ih (inr m) (inl e) = both ih (sym e)
+    by ih (inr m) (inr n) = absurd (asym x y (o .0 y n) (q .0 x m))

@@ -13,7 +13,7 @@ use Rattle.ground.specs.Lists.{each}
 use Rattle.paths.specs.Search.{Thread, ons, add, firsts}
 use Rattle.paths.specs.Situation.{every, threads}
 use Rattle.paths.specs.Registers.{Tags, stands, standing, begin, after, number, situation}
-use Rattle.paths.specs.Meaning.{Stands, Sorted, Once, Situation, with-tags, waiting, meant}
+use Rattle.paths.specs.Meaning.{Stands, Sorted, Once, Situation, trails, with-tags, waiting, meant}
 use Rattle.paths.proofs.Firsts.{Sole, gather-sole, gather-ordered, gather-first}
 use Rattle.paths.proofs.Member.{mem-or-not, mem-ons, ons-mem, ons-append, in-left, in-right}
 use Rattle.paths.proofs.Closure.{by-record, firsts-in, firsts-has}
@@ -33,7 +33,7 @@ sole-once (s ∷ l) o = (o .0, sole-once l (o .1))
 -- ---- of these, the records that wait
 
 module _ {B : Type 0} (A : Net) where
-  standing-in : (l : List (Thread B)) {t : Thread B} → List·Memᴰ t (standing A l) → List·Memᴰ t l × (stands (rec A (t .on)) ≡ true)
+  pub standing-in : (l : List (Thread B)) {t : Thread B} → List·Memᴰ t (standing A l) → List·Memᴰ t l × (stands (rec A (t .on)) ≡ true)
   standing-in [] m = absurd (elim m [ ])
   standing-in (s ∷ l) {t} m = by (λ n. standing-in l n) (stands (rec A (s .on))) refl m
     where
@@ -142,9 +142,17 @@ module _ (A : Net) (w : List ℕ) where
       by t m ms c (inl e) = inl (ap (λ v. v .had) e)
       by t m ms c (inr b) = inr (order t (record { on = t .on; had = ms }) (kept-sound t m) c b)
 
+  pub trails-right : Situation A w (trails A w)
+  unfolding trails
+  trails-right = kept-right
+
+  pub trails-threads : trails A w ≡ standing A (threads onto A w (start ∷ []))
+  unfolding trails
+  trails-threads = ap (λ l. standing A l) (sym (heart onto A w (start ∷ []) ∙ ap (λ l. firsts [] l) (append-nil all)))
+
   -- what the builder keeps after w is the situation of document 01
   pub threads-right : Situation A w (standing A (threads onto A w (start ∷ [])))
-  threads-right = subst (λ l. Situation A w (standing A l)) (sym (heart onto A w (start ∷ []) ∙ ap (λ l. firsts [] l) (append-nil all))) kept-right
+  threads-right = subst (λ l. Situation A w l) trails-threads trails-right
 
 -- ---- and, by computation, the list that the builder keeps
 
@@ -159,8 +167,8 @@ tags-back p (s ∷ l) = ap (λ r. s ∷ r) (tags-back p l)
 pub waiting-after : (A : Net) (w : List ℕ) → waiting A w ≡ after A 0 (begin A) w
 unfolding waiting
 waiting-after A w =
-    with-tags-lifts (standing A (firsts [] (all A w)))
-    ∙ ap (λ l. lifts (λ h. h .tags) (lifts (λ p. held p empty-handed) (standing A l))) (sym (heart onto A w (start A w ∷ []) ∙ ap (λ l. firsts [] l) (append-nil (all A w))))
+    with-tags-lifts (trails A w)
+    ∙ ap (λ l. lifts (λ h. h .tags) (lifts (λ p. held p empty-handed) l)) (trails-threads A w)
     ∙ ap (λ l. lifts (λ h. h .tags) l) (sym (after-paths A w))
     ∙ tags-back (length w) (after A 0 (begin A) w)
 

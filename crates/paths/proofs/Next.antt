@@ -33,7 +33,7 @@ module _ {X : Type 0} (P : X → Type 0) where
       by (inl n) = g s n
       by (inr n) = h s n
 
-  single : (s : Thread X) → P (s .had) → Each (s ∷ [])
+  pub single : (s : Thread X) → P (s .had) → Each (s ∷ [])
   single s p t m = by (List·Memᴰ·cases-cons m)
     where
       by : (t ≡ s) ⊎ List·Memᴰ t [] → P (t .had)
@@ -58,16 +58,16 @@ module _ {X : Type 0} (P : X → Type 0) where
     each-follow : (x : X) (es : List (Move × ℕ)) → P x → Each (follow f x es)
     each-follow x es p t m = let c = follow-cases f x es m in rw (c .2) (keep (c .0 .0) x p)
 
-    each-close : (ss : List (Thread X)) → Each ss → Each (close f A ss)
+    pub each-close : (ss : List (Thread X)) → Each ss → Each (close f A ss)
     unfolding close on-quiet
     each-close ss g = each-fold (visit (on-quiet f A) (suc (length A)))
         (each-visit (on-quiet f A) (λ s p. each-follow (s .had) (quiet (rec A (s .on))) p) (suc (length A))) ss [] (λ s m. absurd (elim m [ ])) g
 
-    each-byte : (b : ℕ) (ss : List (Thread X)) → Each ss → Each (each (on-byte f A b) ss)
+    pub each-byte : (b : ℕ) (ss : List (Thread X)) → Each ss → Each (each (on-byte f A b) ss)
     unfolding on-byte
     each-byte b ss g t m = let c = each-cases (on-byte f A b) ss m in each-follow (c .0 .had) (bite b (rec A (c .0 .on))) (g (c .0) (c .1)) t (c .2)
 
-  each-standing : (A : Net) (l : List (Thread X)) → Each l → Each (standing A l)
+  pub each-standing : (A : Net) (l : List (Thread X)) → Each l → Each (standing A l)
   each-standing A [] g = g
   each-standing A (s ∷ l) g = by (each-standing A l (λ t m. g t (List·Memᴰ·tail m))) (stands (rec A (s .on)))
     where
@@ -131,7 +131,7 @@ held-step A now b l k m =
 -- ---- a step renamed is the step of the renamed list
 
 module _ (σ : ℕ → ℕ → ℕ) where
-  rename-lifts : (l : List (Thread Tags)) → rename σ l ≡ lifts (renamed σ 0) l
+  pub rename-lifts : (l : List (Thread Tags)) → rename σ l ≡ lifts (renamed σ 0) l
   rename-lifts [] = refl
   rename-lifts (s ∷ l) = ap (λ r. record { on = s .on; had = renamed σ 0 (s .had) } ∷ r) (rename-lifts l)
 

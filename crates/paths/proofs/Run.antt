@@ -43,10 +43,10 @@ fetch-old : (now count : ℕ) (bank : List ℕ) (i : ℕ) → i < count → fetc
 fetch-old now count bank i h = rw (of-T (ltb i count) (lt→ltb i count h))
 
 -- the registers of s are below their count
-abbrev Sound : State → Type 0
+abbrev pub Sound : State → Type 0
 Sound s = (k : Key) → List·Memᴰ k (held-by (s .sit)) → k .1 < length (registers (s .sit))
 
-sound-number : (l : List (Thread Tags)) (k : Key) → List·Memᴰ k (held-by (number l)) → k .1 < length (registers (number l))
+pub sound-number : (l : List (Thread Tags)) (k : Key) → List·Memᴰ k (held-by (number l)) → k .1 < length (registers (number l))
 sound-number l k m = rw (as-many-registers l) (number-below l k m)
 
 pub feed-shown : (A : Net) (now b : ℕ) (s : State) → Sound s → shown (feed A now b s) ≡ step A now b (shown s)
@@ -100,3 +100,43 @@ run-situation A w = run-sit A 0 (ready A) w ∙ sym (situations A w)
 -- THE WHOLE: at the end the first END of the situation, with the places that its registers hold, is the answer
 pub run-answer : (A : Net) (w : List ℕ) → answer A w ≡ lift-end (at-place (length w)) (first-end A (shown (run A 0 (ready A) w)))
 run-answer A w = answer-after A w ∙ ap (λ l. lift-end (at-place (length w)) (first-end A l)) (sym (run-right A w))
+
+-- ---- one byte more; register numbers are below their count, and the bank has that many
+
+pub run-snoc : (A : Net) (p : ℕ) (s : State) (w : List ℕ) (b : ℕ) → run A p s (w ++ (b ∷ [])) ≡ feed A (suc (p + length w)) b (run A p s w)
+unfolding run
+run-snoc A p s [] b = let e : p ≡ p + 0 = omega arith in ap (λ q. feed A (suc q) b s) e
+run-snoc A p s (c ∷ w) b = let e : suc p + length w ≡ p + suc (length w) = omega arith in run-snoc A (suc p) (feed A (suc p) c s) w b ∙ ap (λ q. feed A (suc q) b (run A (suc p) (feed A (suc p) c s) w)) e
+
+-- a state whose bank fits its situation
+record Fitting (s : State) : Type 0 where
+  sound : Sound s
+  full : length (s .bank) ≡ length (registers (s .sit))
+
+feed-full : (A : Net) (now b : ℕ) (s : State) → length (feed A now b s .bank) ≡ length (registers (feed A now b s .sit))
+unfolding feed next origins
+feed-full A now b s =
+    length-map (map (λ k. k .1) (registers X)) (fetch now (length (registers (s .sit))) (s .bank))
+    ∙ length-map (registers X) (λ k. k .1)
+    ∙ sym (as-many-registers X)
+  where
+    X : List (Thread Tags)
+    X = step A (length (registers (s .sit))) b (s .sit)
+
+feed-fitting : (A : Net) (now b : ℕ) (s : State) → Fitting (feed A now b s)
+feed-fitting A now b s = record { sound = feed-sound A now b s; full = feed-full A now b s }
+
+ready-fitting : (A : Net) → Fitting (ready A)
+unfolding ready
+ready-fitting A = record { sound = sound-number (begin A); full = length-map (registers (begin A)) (λ k. k .1) ∙ sym (as-many-registers (begin A)) }
+
+run-fitting : (A : Net) (p : ℕ) (s : State) (w : List ℕ) → Fitting s → Fitting (run A p s w)
+unfolding run
+run-fitting A p s [] h = h
+run-fitting A p s (b ∷ w) h = run-fitting A (suc p) (feed A (suc p) b s) w (feed-fitting A (suc p) b s)
+
+pub run-in-count : (A : Net) (w : List ℕ) → Sound (run A 0 (ready A) w)
+run-in-count A w = run-fitting A 0 (ready A) w (ready-fitting A) .sound
+
+pub run-bank : (A : Net) (w : List ℕ) → length (run A 0 (ready A) w .bank) ≡ length (registers (situation A w))
+run-bank A w = run-fitting A 0 (ready A) w (ready-fitting A) .full ∙ ap (λ s. length (registers s)) (run-situation A w)

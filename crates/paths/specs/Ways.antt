@@ -77,7 +77,15 @@ held (m ∷ ms) h = held ms (act m h)
 
 -- ---- the answer
 
--- An admissible path that consumes the whole of w and then stands on an END.
+-- "A path accepts when it stands on END with the whole record consumed": any path, admissible or not.
+pub record Accepted (A : Net) (w : List ℕ) (answer : ℕ) : Type 0 where
+  pub moves : List Move
+  pub last : ℕ
+  pub path : Way A 0 moves last
+  pub whole : eaten moves ≡ w
+  pub at-end : rec A last ≡ end answer
+
+-- An admissible one, of the moves ms.
 pub record Accepts (A : Net) (w : List ℕ) (ms : List Move) (answer : ℕ) : Type 0 where
   pub last : ℕ
   pub path : Way A 0 ms last
