@@ -1,32 +1,30 @@
 -- The run of the builder's table tells the net's answer of every line, and the loader takes the table. Assumes nothing.
 use mathlib.Core.Path.{_≡_, refl, sym, ap, ap₂, _∙_, subst}
-use mathlib.Core.Logic.{_⊎_, inl, inr, _↔_}
+use mathlib.Core.Logic.{inl, inr, _↔_}
 use mathlib.Core.List.{List, [], _∷_, map, head-eq-of-cons-eq, tail-eq-of-cons-eq}
 use mathlib.Core.Option.{Option, none, some}
-use Prim.Native.Nat.{ℕ, zero, suc, _≤_, _<_}
+use Prim.Native.Nat.{ℕ, zero, suc}
 use native.Mathlib.Omega.{arith}
 use lib.Dec.{eqb}
-use lib.IntN.{ℤ, pos, negsuc}
-use lib.ListN.{length, getD, replicate}
+use lib.IntN.{pos}
+use lib.ListN.{getD, replicate}
 use Rattle.ground.specs.Pick.{pick}
+use Rattle.ground.proofs.Picks.{pick-ne}
 use Rattle.net.specs.Rec.{Net}
-use Rattle.paths.specs.Ways.{Move, Accepts, Answer}
-use Rattle.paths.specs.Situation.{first-end, answer}
+use Rattle.paths.specs.Ways.{Accepted, Answer}
+use Rattle.paths.specs.Situation.{first-end}
 use Rattle.paths.specs.Registers.{Tags, renamed, situation, run as goes, ready}
 use Rattle.paths.specs.Equal.{same-situation}
-use Rattle.paths.proofs.Same.{lift-end}
-use Rattle.paths.proofs.Bridge.{at-place}
-use Rattle.paths.proofs.Answers.{answer-none, one-answer, accepted-by-any}
-use Rattle.card.specs.Table.{Sit, Table, bytesOf, Formed}
-use Rattle.card.specs.Run.{Bank, absent, Empty, reg, sit, State as Stand, at, lost, over, In, hd, tl, EndRead, Stuck, Line, Told, refused, placeAt, told, ends, tells}
+use Rattle.paths.proofs.Laws.{loops-cut, answer-one, run-answer, run-none}
+use Rattle.card.specs.Table.{bytesOf}
+use Rattle.card.specs.Run.{Bank, absent, Empty, reg, sit, at, over, In, hd, tl, EndRead, Stuck, Line, Told, refused, placeAt, told, ends, tells}
 use Rattle.card.specs.Judged.{Judged, taken}
 use Rattle.explore.specs.Lists.{position}
-use Rattle.build.specs.Card.{State, states, need, answer-of, field-of, fields-of, sit-of, tableOf}
+use Rattle.build.specs.Card.{states, answer-of, field-of, fields-of, sit-of, tableOf}
 use Rattle.built.specs.Fits.{Fits}
-use Rattle.built.specs.Tells.{place, Accepted, Tells, matched, unmatched}
-use Rattle.built.proofs.Common.{eqb-no, pick-false}
-use Rattle.built.proofs.Ends.{places, answer-by, end-answer}
-use Rattle.built.proofs.Formed.{Ended, ended, table-formed}
+use Rattle.built.specs.Tells.{place, found, Tells, matched, unmatched}
+use Rattle.built.proofs.Ends.{ended}
+use Rattle.built.proofs.Formed.{table-formed}
 use Rattle.built.proofs.Runs.{sit-at, table-runs}
 
 -- ---- places
@@ -41,7 +39,7 @@ places-right bank old t [] h = refl
 places-right bank old t (none ∷ τ) h = ap (λ l. absent ∷ l) (places-right bank old (suc t) τ (λ u r e. h (suc u) r e))
 places-right bank old t (some r ∷ τ) h =
     let c = h zero r refl in
-    ap₂ (λ v l. v ∷ l) (ap (λ b. pick b absent (reg bank r)) (eqb-no r 255 (c .1)) ∙ c .0) (places-right bank old (suc t) τ (λ u q e. h (suc u) q e))
+    ap₂ (λ v l. v ∷ l) (pick-ne r 255 absent (reg bank r) (c .1) ∙ c .0) (places-right bank old (suc t) τ (λ u q e. h (suc u) q e))
 
 -- a field that is not absent is one of the registers
 field-in : (τ : Tags) (r : ℕ) → In r (map field-of τ) → (r ≡ 255 → ⊥) → (t : ℕ) × (getD τ t none ≡ some r)
@@ -54,25 +52,9 @@ same-in : (n a r : ℕ) → In r (replicate n a) → r ≡ a
 same-in (suc n) a r hd = refl
 same-in (suc n) a r (tl i) = same-in n a r i
 
--- ---- no path at all
-
-accepts-some : {A : Net} {w : List ℕ} {ms : List Move} {e : ℕ} → Accepts A w ms e → Accepted A w
-accepts-some {ms = ms} {e = e} a = record { moves = ms; last = a .last; answer = e; path = a .path; whole = a .whole; at-end = a .at-end }
-
-none-accepted : (A : Net) (w : List ℕ) → answer A w ≡ none → ¬ Accepted A w
-none-accepted A w p a =
-    let c = accepted-by-any A w (a .answer) .1 (a .moves, a .last, a .path, a .whole, a .at-end) in
-    answer-none A w p (c .0) (a .answer) (c .1)
-
 module _ {tags : ℕ} {A : Net} (fits : Fits tags A) (w : List ℕ) (line : Line w) where
-  here : State
-  here = situation A w
-
   bank-of : Bank
   bank-of = table-runs fits w (line .0) .0
-
-  old-of : List ℕ
-  old-of = goes A 0 (ready A) w .bank
 
   over-is : over (tableOf tags A) w ≡ at (position same-situation (situation A w) (states A)) bank-of
   unfolding bank-of
@@ -81,8 +63,8 @@ module _ {tags : ℕ} {A : Net} (fits : Fits tags A) (w : List ℕ) (line : Line
   sit-is : sit (tableOf tags A) (position same-situation (situation A w) (states A)) ≡ sit-of A (states A) (situation A w)
   sit-is = sit-at tags A (situation A w) (fits .complete w (line .0))
 
-  held-places : (e : ℕ) (τ : Tags) → first-end A (situation A w) ≡ some (e, τ) → Held bank-of old-of τ
-  unfolding bank-of old-of
+  held-places : (e : ℕ) (τ : Tags) → first-end A (situation A w) ≡ some (e, τ) → Held bank-of (goes A 0 (ready A) w .bank) τ
+  unfolding bank-of
   held-places e τ p t r q =
       let d = ended fits (situation A w) (fits .complete w (line .0)) e τ p in
       let l = d .below t r q in
@@ -95,15 +77,15 @@ module _ {tags : ℕ} {A : Net} (fits : Fits tags A) (w : List ℕ) (line : Line
   tell o = pick (eqb (answer-of o) 255) (refused 16) (record { code = 0; answer = answer-of o; places = map (placeAt bank-of) (fields-of o) })
 
   tell-right : (o : Option (ℕ × Tags)) → first-end A (situation A w) ≡ o → Tells A w (tell o)
-  unfolding tell pick old-of
-  tell-right none p = unmatched (none-accepted A w (answer-by A w ∙ ap (λ o. lift-end (at-place (length w)) (lift-end (renamed (places A w) 0) o)) p))
+  unfolding tell pick
+  tell-right none p = unmatched (run-none A w .0 p)
   tell-right (some x) p =
       let d = ended fits (situation A w) (fits .complete w (line .0)) (x .0) (x .1) p in
       let s = d .small in
       subst (Tells A w)
-      (sym (pick-false (refused 16) (record { code = 0; answer = x .0; places = map (placeAt bank-of) (map field-of (x .1)) }) (eqb-no (x .0) 255 (λ z. omega arith))
-      ∙ ap (λ l. record { code = 0; answer = x .0; places = l }) (places-right bank-of old-of 0 (x .1) (held-places (x .0) (x .1) p))))
-      (matched (x .0) (renamed (places A w) 0 (x .1)) (end-answer A w (x .0) (x .1) p))
+      (sym (pick-ne (x .0) 255 (refused 16) (record { code = 0; answer = x .0; places = map (placeAt bank-of) (map field-of (x .1)) }) (λ z. omega arith)
+      ∙ ap (λ l. record { code = 0; answer = x .0; places = l }) (places-right bank-of (goes A 0 (ready A) w .bank) 0 (x .1) (held-places (x .0) (x .1) p))))
+      (matched (x .0) (renamed (λ t i. getD (goes A 0 (ready A) w .bank) i 0) 0 (x .1)) (run-answer A w (x .0) (x .1) p))
 
   -- THE ANSWER: what a run of the built table tells of a line is END and tags of the net's earliest path, or that there is none
   pub build-answers : Tells A w (tells (tableOf tags A) w)
@@ -133,10 +115,13 @@ build-taken {tags} {A} fits = taken (tableOf tags A) (table-formed fits) refl (n
 
 -- ---- there is one thing to tell
 
+answer-some : {A : Net} {w : List ℕ} {e : ℕ} {τ : Tags} → Answer A w e τ → Accepted A w e
+answer-some {A} {w} {e} a = loops-cut A w e .0 (a .moves, a .accepts)
+
 pub one-told : {A : Net} {w : List ℕ} {x y : Told} → Tells A w x → Tells A w y → x ≡ y
-one-told {A} (matched e τ a) (matched f υ b) = let s = one-answer A a b in ap₂ (λ v l. record { code = 0; answer = v; places = map place l }) (s .0) (s .1)
-one-told (matched e τ a) (unmatched n) = absurd (n (accepts-some (a .accepts)))
-one-told (unmatched n) (matched f υ b) = absurd (n (accepts-some (b .accepts)))
+one-told {A} (matched e τ a) (matched f υ b) = let s = answer-one A a b in ap₂ found (s .0) (s .1)
+one-told (matched e τ a) (unmatched n) = absurd (n e (answer-some a))
+one-told (unmatched n) (matched f υ b) = absurd (n f (answer-some b))
 one-told (unmatched n) (unmatched m) = refl
 
 -- a place tells a tag
@@ -152,20 +137,20 @@ places-one [] (q ∷ υ) e = let z : _≡_ {A = ℕ} 0 1 = cc in absurd (omega a
 places-one (p ∷ τ) [] e = let z : _≡_ {A = ℕ} 0 1 = cc in absurd (omega arith)
 places-one (p ∷ τ) (q ∷ υ) e = ap₂ (λ v l. v ∷ l) (place-one p q (head-eq-of-cons-eq e)) (places-one τ υ (tail-eq-of-cons-eq e))
 
-answer-from : {A : Net} {w : List ℕ} {x : Told} → Tells A w x → (e : ℕ) (τ : Tags) → x ≡ record { code = 0; answer = e; places = map place τ } → Answer A w e τ
+answer-from : {A : Net} {w : List ℕ} {x : Told} → Tells A w x → (e : ℕ) (τ : Tags) → x ≡ found e τ → Answer A w e τ
 answer-from {A} {w} (matched f υ a) e τ p =
     subst (λ l. Answer A w e l) (places-one υ τ (ap (λ v. v .places) p)) (subst (λ v. Answer A w v υ) (ap (λ v. v .answer) p) a)
 answer-from (unmatched n) e τ p = let q = ap (λ v. v .code) p in absurd (omega arith)
 
-none-from : {A : Net} {w : List ℕ} {x : Told} → Tells A w x → x .code ≡ 16 → ¬ Accepted A w
+none-from : {A : Net} {w : List ℕ} {x : Told} → Tells A w x → x .code ≡ 16 → (e : ℕ) → ¬ Accepted A w e
 none-from (matched f υ a) p = absurd (omega arith)
 none-from (unmatched n) p = n
 
 module _ {tags : ℕ} {A : Net} (fits : Fits tags A) (w : List ℕ) (line : Line w) where
   -- code 0 with this answer and these eight places, exactly if they are the net's
-  pub answers-exactly : (e : ℕ) (τ : List (Option ℕ)) → Answer A w e τ ↔ (tells (tableOf tags A) w ≡ record { code = 0; answer = e; places = map place τ })
+  pub answers-exactly : (e : ℕ) (τ : List (Option ℕ)) → Answer A w e τ ↔ (tells (tableOf tags A) w ≡ found e τ)
   answers-exactly e τ = (λ a. one-told (build-answers fits w line) (matched e τ a), answer-from (build-answers fits w line) e τ)
 
   -- NO_MATCH exactly if no path, admissible or not, accepts
-  pub unmatched-exactly : (¬ Accepted A w) ↔ (tells (tableOf tags A) w .code ≡ 16)
+  pub unmatched-exactly : ((e : ℕ) → ¬ Accepted A w e) ↔ (tells (tableOf tags A) w .code ≡ 16)
   unmatched-exactly = (λ n. ap (λ v. v .code) (one-told (build-answers fits w line) (unmatched n)), none-from (build-answers fits w line))

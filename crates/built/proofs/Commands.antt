@@ -3,24 +3,24 @@
 use mathlib.Core.Path.{_≡_, refl, sym, ap, _∙_}
 use mathlib.Core.Logic.{_⊎_, inl, inr}
 use mathlib.Core.Bool.{Bool, true, false, cond}
-use mathlib.Core.List.{List, [], _∷_, _++_, map, List·Memᴰ, List·Memᴰ·head, List·Memᴰ·tail, Memᴰ·of-map}
+use mathlib.Core.List.{List, [], _∷_, map, List·Memᴰ, List·Memᴰ·head, List·Memᴰ·tail, Memᴰ·of-map}
 use Prim.Native.Nat.{ℕ, zero, suc, _+_, _≤_, _<_}
 use native.Mathlib.Numerals.{add-one}
 use native.Mathlib.Omega.{arith}
 use lib.Dec.{eqb}
 use lib.IntN.{ℤ, pos}
-use lib.ListN.{length, getD, set, replicate, length-set, length-map, length-replicate}
+use lib.ListN.{length, getD, set, replicate, length-set, length-map}
 use lib.Seq.{getD-set-same, getD-set-other}
+use borrow.Author.Tests.{eqb-true, eqb-false}
 use Rattle.net.specs.Rec.{Net}
-use Rattle.paths.specs.Search.{Thread}
-use Rattle.paths.specs.Registers.{Key, held-by, registers, number, step, situation, after, begin, next, origins}
+use Rattle.paths.specs.Registers.{Key, held-by, registers, step, situation, after, begin, next, origins}
 use Rattle.paths.proofs.Numbers.{registers-held}
-use Rattle.paths.proofs.Next.{held-step, as-many-registers, number-below}
-use Rattle.card.specs.Table.{Cmd, move, put, Rising, Sets}
+use Rattle.paths.proofs.Next.{held-step, as-many-registers}
+use Rattle.paths.proofs.Run.{sound-number}
+use Rattle.card.specs.Table.{move, put, Rising, Sets}
 use Rattle.card.specs.Run.{Bank, reg, Out, ok, moved, apply}
 use Rattle.explore.specs.Lists.{span}
 use Rattle.build.specs.Card.{State, need, commands}
-use Rattle.built.proofs.Common.{eqb-yes, eqb-same}
 
 -- ---- origins
 
@@ -30,7 +30,7 @@ Sound s = (k : Key) → List·Memᴰ k (held-by s) → k .1 < need s
 
 pub sound : (A : Net) (w : List ℕ) → Sound (situation A w)
 unfolding situation
-sound A w k m = rw (as-many-registers (after A 0 (begin A) w)) (number-below (after A 0 (begin A) w) k m)
+sound A w = sound-number (after A 0 (begin A) w)
 
 pub origins-bound : (A : Net) (b : ℕ) (s : State) → Sound s → (o : ℕ) → List·Memᴰ o (origins A b s) → o ≤ need s
 unfolding origins
@@ -58,10 +58,10 @@ rising R now k low (o ∷ os) a b c h = by (λ l d. rising R now (suc k) l os d 
         → Rising R low (cond d (put k ∷ commands now (suc k) os) (cond e (commands now (suc k) os) (move k o ∷ commands now (suc k) os)))
     by ih true p e = (a, omega arith, ih (suc k) (omega arith))
     by ih false p true = ih low (omega arith)
-    by ih false p false = (a, omega arith, less (λ q. ap (λ v. v) (sym p) ∙ ap (λ v. eqb v now) q ∙ eqb-same now), ih (suc k) (omega arith))
-      where
-        less : (o ≡ now → _≡_ {A = Bool} false true) → o < R
-        less z = let m = h o (List·Memᴰ·head refl) in let q : ¬ (o ≡ now) = λ r. (let y = z r in let x : _≡_ {A = ℕ} 0 1 = cc in omega arith) in omega arith
+    by ih false p false =
+        let m = h o (List·Memᴰ·head refl) in
+        let n : ¬ (o ≡ now) = eqb-false o now p in
+        (a, omega arith, omega arith, ih (suc k) (omega arith))
 
 -- ---- what they leave
 
@@ -95,19 +95,13 @@ unfolding commands apply
 applies now k p [] old cur a h g e = record { bank = cur; done = refl; size = refl; below = λ j _. refl; above = λ i l. absurd (omega arith) }
 applies now k p (o ∷ os) old cur a h g e = by (λ c l d. applies now (suc k) p os old c l (λ q m. h q (List·Memᴰ·tail m)) g d) (eqb o now) refl (eqb o k) refl
   where
-    rest : List Cmd
-    rest = commands now (suc k) os
-
-    room : k < length cur
-    room = omega arith
-
     -- one register is written
     written : (v : ℤ) → v ≡ fetched now p old o
         → ((c : Bank) → suc k + length os ≤ length c → ((j : ℕ) → suc k ≤ j → reg c j ≡ reg old j) → Applied now (suc k) p os old c (apply (commands now (suc k) os) p old c))
         → Applied now k p (o ∷ os) old cur (apply (commands now (suc k) os) p old (set cur k v))
     written v f ih =
         one-more now k p o os old cur (set cur k v) (apply (commands now (suc k) os) p old (set cur k v)) (length-set cur k v)
-        (λ j l. getD-set-other cur k j v (pos 0) (omega arith)) (getD-set-same cur k v (pos 0) room ∙ f)
+        (λ j l. getD-set-other cur k j v (pos 0) (omega arith)) (getD-set-same cur k v (pos 0) (omega arith) ∙ f)
         (ih (set cur k v) (omega (arith, length-set cur k v)) (λ j l. getD-set-other cur k j v (pos 0) (omega arith) ∙ e j (omega arith)))
 
     by : ((c : Bank) → suc k + length os ≤ length c → ((j : ℕ) → suc k ≤ j → reg c j ≡ reg old j) → Applied now (suc k) p os old c (apply (commands now (suc k) os) p old c))
@@ -116,15 +110,13 @@ applies now k p (o ∷ os) old cur a h g e = by (λ c l d. applies now (suc k) p
     by ih true q f r = written (pos p) (sym (ap (λ c. cond c (pos p) (reg old o)) q)) ih
     by ih false q true r =
         one-more now k p o os old cur cur (apply (commands now (suc k) os) p old cur) refl (λ j l. refl)
-        (e k (omega arith) ∙ ap (reg old) (sym (eqb-yes o k r)) ∙ sym (ap (λ c. cond c (pos p) (reg old o)) q))
+        (e k (omega arith) ∙ ap (reg old) (sym (eqb-true o k r)) ∙ sym (ap (λ c. cond c (pos p) (reg old o)) q))
         (ih cur (omega arith) (λ j l. e j (omega arith)))
     by ih false q false r =
-        let old-one = g o (older (λ z. sym q ∙ ap (λ v. eqb v now) z ∙ eqb-same now)) in
-        applied-as (ap (λ v. moved v (apply (commands now (suc k) os) p old (set cur k (reg old o)))) (old-one .1))
+        let m = h o (List·Memᴰ·head refl) in
+        let n : ¬ (o ≡ now) = eqb-false o now q in
+        applied-as (ap (λ v. moved v (apply (commands now (suc k) os) p old (set cur k (reg old o)))) (g o (omega arith) .1))
         (written (reg old o) (sym (ap (λ c. cond c (pos p) (reg old o)) q)) ih)
-      where
-        older : (o ≡ now → _≡_ {A = Bool} false true) → o < now
-        older z = let m = h o (List·Memᴰ·head refl) in let y : ¬ (o ≡ now) = λ r. (let y = z r in let x : _≡_ {A = ℕ} 0 1 = cc in omega arith) in omega arith
 
 -- ---- the start: a list of origins that are all new
 

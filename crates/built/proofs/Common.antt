@@ -1,17 +1,13 @@
 -- Facts about lists, spans and tests that several of the laws need. Assumes nothing.
-use mathlib.Core.Path.{_≡_, refl, sym, ap, ap₂, _∙_}
+use mathlib.Core.Path.{_≡_, refl, sym, ap, ap₂}
 use mathlib.Core.Logic.{_⊎_, inl, inr}
 use mathlib.Core.Bool.{Bool, true, false, _&&_, cond}
-use mathlib.Core.List.{List, [], _∷_, _++_, map, List·Memᴰ, List·Memᴰ·head, List·Memᴰ·tail, List·Memᴰ·cases-cons}
-use Prim.Native.Nat.{ℕ, zero, suc, _+_, _≤_, _<_}
-use native.Mathlib.Nat.{le-of-suc-le-suc, not-suc-le-zero}
+use mathlib.Core.List.{List, [], _∷_, _++_, List·Memᴰ, List·Memᴰ·head, List·Memᴰ·tail, List·Memᴰ·cases-cons}
+use Prim.Native.Nat.{ℕ, zero, suc, _+_, _<_}
 use native.Mathlib.Omega.{arith}
 use lib.ListN.{length, getD, replicate}
-use lib.Dec.{T, eqb, eqb→eq, eqb-refl, leb, leb→le, le→leb}
-use Rattle.ground.specs.Pick.{pick}
 use Rattle.paths.specs.Equal.{same-list}
 use Rattle.paths.specs.Limits.{bytes, Input}
-use Rattle.paths.proofs.Member.{Bool-cases, T-of, of-T}
 use Rattle.card.specs.Run.{AllBytes}
 use Rattle.explore.specs.Lists.{span, position}
 
@@ -27,32 +23,12 @@ list-eq f h [] (y ∷ k) e = let z : _≡_ {A = ℕ} 0 1 = cc in absurd (omega a
 list-eq f h (x ∷ l) [] e = let z : _≡_ {A = ℕ} 0 1 = cc in absurd (omega arith)
 list-eq f h (x ∷ l) (y ∷ k) e = let a = and-true (f x y) (same-list f l k) e in ap₂ (λ x l. x ∷ l) (h x y (a .0)) (list-eq f h l k (a .1))
 
-pub eqb-yes : (m n : ℕ) → eqb m n ≡ true → m ≡ n
-eqb-yes m n e = eqb→eq m n (T-of e)
-
-pub eqb-same : (n : ℕ) → eqb n n ≡ true
-eqb-same n = of-T (eqb n n) (eqb-refl n)
-
-pub eqb-no : (m n : ℕ) → (m ≡ n → ⊥) → eqb m n ≡ false
-eqb-no m n h = by (Bool-cases (eqb m n))
-  where
-    by : (eqb m n ≡ true) ⊎ (eqb m n ≡ false) → eqb m n ≡ false
-    by (inl e) = absurd (h (eqb-yes m n e))
-    by (inr e) = e
-
--- ---- maps
-
-pub getD-map : {A B : Type 0} (f : A → B) (l : List A) (i : ℕ) (d : A) (e : B) → i < length l → getD (map f l) i e ≡ f (getD l i d)
-getD-map f [] i d e h = absurd (not-suc-le-zero h)
-getD-map f (x ∷ l) zero d e h = refl
-getD-map f (x ∷ l) (suc i) d e h = getD-map f l i d e (le-of-suc-le-suc h)
+-- ---- what is in a list of equal ones, and the place of an element
 
 pub replicate-in : {A : Type 0} {a x : A} (n : ℕ) → List·Memᴰ x (replicate n a) → x ≡ a
 replicate-in zero m = absurd (elim m [ ])
 replicate-in (suc n) (List·Memᴰ·head e) = e
 replicate-in (suc n) (List·Memᴰ·tail m) = replicate-in n m
-
--- ---- the place of an element
 
 module _ {S : Type 0} (eq : S → S → Bool) (test : (s t : S) → (eq s t ≡ true → s ≡ t) × (s ≡ t → eq s t ≡ true)) where
   pub position-at : (d s : S) {l : List S} → List·Memᴰ s l → (position eq s l < length l) × (getD l (position eq s l) d ≡ s)
@@ -90,23 +66,3 @@ of-input (b ∷ w) h = (h b (List·Memᴰ·head refl), of-input w (λ c m. h c (
 pub bytes-more : (w : List ℕ) (b : ℕ) → AllBytes w → b < 256 → AllBytes (w ++ (b ∷ []))
 bytes-more [] b h k = (k, tt)
 bytes-more (c ∷ w) b h k = (h .0, bytes-more w b (h .1) k)
-
--- ---- choices by a test
-
-pub pick-true : {A : Type 0} {c : Bool} (a b : A) → c ≡ true → pick c a b ≡ a
-unfolding pick
-pick-true a b e = rw e
-
-pub pick-false : {A : Type 0} {c : Bool} (a b : A) → c ≡ false → pick c a b ≡ b
-unfolding pick
-pick-false a b e = rw e
-
-pub leb-yes : (m n : ℕ) → m ≤ n → leb m n ≡ true
-leb-yes m n h = of-T (leb m n) (le→leb m n h)
-
-pub leb-no : (m n : ℕ) → n < m → leb m n ≡ false
-leb-no m n h = by (Bool-cases (leb m n))
-  where
-    by : (leb m n ≡ true) ⊎ (leb m n ≡ false) → leb m n ≡ false
-    by (inl e) = let q = leb→le m n (T-of e) in absurd (omega arith)
-    by (inr e) = e

@@ -1,25 +1,25 @@
--- The first END of a situation: with the places that the run's registers hold it is the net's answer; so its answer is below 255, it holds eight
--- tags, none past the HEAD's count, and its registers are among those that the situation needs. Assumes nothing.
+-- The first END of a situation of a net that fits: its answer is below 255, it has eight tags, none past the HEAD's count, and its registers are
+-- among those that the situation needs. Assumes nothing.
 use mathlib.Core.Path.{_≡_, refl, sym, ap, _∙_, subst}
-use mathlib.Core.Logic.{_⊎_, inl, inr}
-use mathlib.Core.List.{List, [], _∷_, _++_, List·Memᴰ, List·Memᴰ·head, List·Memᴰ·tail}
+use mathlib.Core.List.{List, [], _∷_, List·Memᴰ, List·Memᴰ·head, List·Memᴰ·tail}
 use mathlib.Core.Option.{Option, none, some, Option·some-injective}
-use Prim.Native.Nat.{ℕ, zero, suc, _+_, _≤_, _<_}
+use Prim.Native.Nat.{ℕ, zero, suc, _≤_, _<_}
 use native.Mathlib.Omega.{arith}
-use lib.ListN.{length, getD, set, replicate, length-set}
+use lib.ListN.{length, getD, replicate, length-set}
 use lib.Seq.{getD-set-other}
 use Rattle.net.specs.Rec.{Rec, range, mask, fork, tag, end, Net, rec}
-use Rattle.net.specs.File.{Every, Fits, Legal}
-use Rattle.paths.specs.Ways.{Turn, first, second, mark, Move, eat, turn, Step, by-range, by-mask, by-first, by-second, by-tag, Way, stay, go, Held, empty-handed, act, held, Accepts, Answer}
+use Rattle.net.specs.File as file
+use Rattle.net.specs.File.{Every, Legal}
+use Rattle.paths.specs.Ways.{Move, Step, by-range, by-mask, by-first, by-second, by-tag, Way, stay, go, Held, empty-handed, act, held, Answer}
 use Rattle.paths.specs.Search.{Thread}
-use Rattle.paths.specs.Situation.{ending, first-end, answer}
-use Rattle.paths.specs.Registers.{Tags, Key, holds, held-by, renamed, rename, situation, run, ready, shown}
+use Rattle.paths.specs.Situation.{ending, first-end}
+use Rattle.paths.specs.Registers.{Tags, Key, holds, renamed}
 use Rattle.paths.proofs.Common.{each-has}
-use Rattle.paths.proofs.Same.{lift-end}
-use Rattle.paths.proofs.Bridge.{at-place}
-use Rattle.paths.proofs.Answers.{answer-right}
-use Rattle.paths.proofs.Run.{run-situation, run-answer}
-use Rattle.build.specs.Card.{State}
+use Rattle.paths.proofs.Laws.{run-answer}
+use Rattle.build.specs.Card.{State, states, need}
+use Rattle.built.specs.Fits.{Fits}
+use Rattle.built.proofs.States.{state-of}
+use Rattle.built.proofs.Commands.{Sound, sound}
 
 -- ---- records of a legal net
 
@@ -30,14 +30,14 @@ Mild tags (fork x y) = Unit {0}
 Mild tags (tag t n) = t < tags
 Mild tags (end a) = a ≤ 254
 
-fits-mild : (tags count : ℕ) (k : Rec) → Fits tags count k → Mild tags k
+fits-mild : (tags count : ℕ) (k : Rec) → file.Fits tags count k → Mild tags k
 fits-mild tags count (range lo hi n) h = tt
 fits-mild tags count (mask bits n) h = tt
 fits-mild tags count (fork x y) h = tt
 fits-mild tags count (tag t n) h = h .0
 fits-mild tags count (end a) h = h
 
-mild-at : (tags count : ℕ) (A : Net) → Every (Fits tags count) A → (r : ℕ) → Mild tags (rec A r)
+mild-at : (tags count : ℕ) (A : Net) → Every (file.Fits tags count) A → (r : ℕ) → Mild tags (rec A r)
 mild-at tags count [] h r = tt
 mild-at tags count (k ∷ A) h zero = fits-mild tags count k (h .0)
 mild-at tags count (k ∷ A) h (suc r) = mild-at tags count A (h .1) r
@@ -68,40 +68,11 @@ module _ {tags : ℕ} {A : Net} (legal : Legal tags A) where
   way-eight stay h k = k
   way-eight (go {m = m} s p) h k = way-eight p (act m h) (step-eight s h k)
 
-  pub answer-eight : {w : List ℕ} {e : ℕ} {τ : Tags} → Answer A w e τ → Eight tags τ
+  answer-eight : {w : List ℕ} {e : ℕ} {τ : Tags} → Answer A w e τ → Eight tags τ
   answer-eight a = subst (Eight tags) (a .stored) (way-eight (a .accepts .path) empty-handed (record { size = refl; past = λ t _. all-none 8 t }))
 
-  pub answer-small : {w : List ℕ} {e : ℕ} {τ : Tags} → Answer A w e τ → e ≤ 254
+  answer-small : {w : List ℕ} {e : ℕ} {τ : Tags} → Answer A w e τ → e ≤ 254
   answer-small a = subst (Mild tags) (a .accepts .at-end) (mild-at tags (length A) A (legal .fits) (a .accepts .last))
-
--- ---- the first END, with other numbers
-
-end-renamed : (σ : ℕ → ℕ → ℕ) (A : Net) (l : List (Thread Tags)) → first-end A (rename σ l) ≡ lift-end (renamed σ 0) (first-end A l)
-end-renamed σ A [] = refl
-end-renamed σ A (s ∷ l) = ap (λ o. ending (rec A (s .on)) (renamed σ 0 (s .had)) o) (end-renamed σ A l) ∙ by (rec A (s .on)) (first-end A l)
-  where
-    by : (k : Rec) (o : Option (ℕ × Tags)) → ending k (renamed σ 0 (s .had)) (lift-end (renamed σ 0) o) ≡ lift-end (renamed σ 0) (ending k (s .had) o)
-    by (range lo hi n) o = refl
-    by (mask bits n) o = refl
-    by (fork p q) o = refl
-    by (tag t n) o = refl
-    by (end a) o = refl
-
--- the places in the registers after w
-abbrev pub places : Net → List ℕ → ℕ → ℕ → ℕ
-places A w t i = getD (run A 0 (ready A) w .bank) i 0
-
-pub answer-by : (A : Net) (w : List ℕ) → answer A w ≡ lift-end (at-place (length w)) (lift-end (renamed (places A w) 0) (first-end A (situation A w)))
-answer-by A w =
-    run-answer A w
-    ∙ ap (λ l. lift-end (at-place (length w)) (first-end A (rename (places A w) l))) (run-situation A w)
-    ∙ ap (λ o. lift-end (at-place (length w)) o) (end-renamed (places A w) A (situation A w))
-
--- THE END: with the places of its registers, it is the net's answer
-pub end-answer : (A : Net) (w : List ℕ) (e : ℕ) (τ : Tags) → first-end A (situation A w) ≡ some (e, τ) → Answer A w e (renamed (places A w) 0 τ)
-end-answer A w e τ p =
-    answer-right A w e (at-place (length w) (renamed (places A w) 0 τ))
-    (answer-by A w ∙ ap (λ o. lift-end (at-place (length w)) (lift-end (renamed (places A w) 0) o)) p)
 
 -- ---- back from the places to the registers
 
@@ -117,7 +88,7 @@ renamed-none σ t (some p ∷ τ) zero e = let z : _≡_ {A = ℕ} 0 1 = cc in a
 renamed-none σ t (none ∷ τ) (suc u) e = renamed-none σ (suc t) τ u e
 renamed-none σ t (some p ∷ τ) (suc u) e = renamed-none σ (suc t) τ u e
 
-pub renamed-eight : {tags : ℕ} (σ : ℕ → ℕ → ℕ) (τ : Tags) → Eight tags (renamed σ 0 τ) → Eight tags τ
+renamed-eight : {tags : ℕ} (σ : ℕ → ℕ → ℕ) (τ : Tags) → Eight tags (renamed σ 0 τ) → Eight tags τ
 renamed-eight σ τ h = record { size = sym (renamed-length σ 0 τ) ∙ h .size; past = λ t g. renamed-none σ 0 τ t (h .past t g) }
 
 -- ---- its registers are held by the situation
@@ -144,8 +115,24 @@ holds-at k (some p ∷ τ) zero r e = ((k, p), List·Memᴰ·head refl, Option·
 holds-at k (none ∷ τ) (suc t) r e = holds-at (suc k) τ t r e
 holds-at k (some p ∷ τ) (suc t) r e = let c = holds-at (suc k) τ t r e in (c .0, List·Memᴰ·tail (c .1), c .2)
 
-pub end-register : (A : Net) (s : State) (e : ℕ) (τ : Tags) → first-end A s ≡ some (e, τ) → (t r : ℕ) → getD τ t none ≡ some r → (j : Key) × List·Memᴰ j (held-by s) × (j .1 ≡ r)
-end-register A s e τ p t r q =
+end-register : (A : Net) (s : State) → Sound s → (e : ℕ) (τ : Tags) → first-end A s ≡ some (e, τ) → (t r : ℕ) → getD τ t none ≡ some r → r < need s
+end-register A s h e τ p t r q =
     let c = end-in A s e τ p in
     let d = holds-at 0 (c .0 .had) t r (ap (λ v. getD v t none) (c .2) ∙ q) in
-    (d .0, each-has (λ s. holds 0 (s .had)) (c .1) (d .1), d .2)
+    subst (λ v. v < need s) (d .2) (h (d .0) (each-has (λ s. holds 0 (s .had)) (c .1) (d .1)))
+
+-- ---- THE END
+
+pub state-sound : (A : Net) (s : State) → List·Memᴰ s (states A) → Sound s
+state-sound A s m = let r = state-of A s m in subst Sound (r .2) (sound A (r .0))
+
+pub record Ended (tags : ℕ) (s : State) (e : ℕ) (τ : Tags) : Type 0 where
+  pub small : e ≤ 254
+  pub eight : Eight tags τ
+  pub below : (t r : ℕ) → getD τ t none ≡ some r → r < need s
+
+pub ended : {tags : ℕ} {A : Net} → Fits tags A → (s : State) → List·Memᴰ s (states A) → (e : ℕ) (τ : Tags) → first-end A s ≡ some (e, τ) → Ended tags s e τ
+ended {A = A} fits s m e τ p =
+    let r = state-of A s m in
+    let a = run-answer A (r .0) e τ (ap (λ v. first-end A v) (r .2) ∙ p) in
+    record { small = answer-small (fits .legal) a; eight = renamed-eight _ τ (answer-eight (fits .legal) a); below = end-register A s (state-sound A s m) e τ p }

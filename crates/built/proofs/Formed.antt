@@ -1,46 +1,28 @@
 -- The builder's table has the form of document 01. Assumes nothing.
-use mathlib.Core.Path.{_≡_, refl, sym, ap, _∙_, subst}
-use mathlib.Core.Logic.{_⊎_, inl, inr}
+use mathlib.Core.Path.{_≡_, refl, sym, _∙_, subst}
+use mathlib.Core.Logic.{inl, inr}
 use mathlib.Core.List.{List, [], _∷_, map, List·Memᴰ, List·Memᴰ·head, List·Memᴰ·tail}
 use mathlib.Core.Option.{Option, none, some}
-use Prim.Native.Nat.{ℕ, zero, suc, _+_, _≤_, _<_}
+use Prim.Native.Nat.{ℕ, _≤_, _<_}
 use native.Mathlib.Omega.{arith}
 use lib.ListN.{length, getD, replicate, length-map, length-replicate, getD-replicate}
+use Rattle.ground.proofs.Lists.{getD-map}
 use Rattle.net.specs.Rec.{Net}
 use Rattle.paths.specs.Situation.{first-end}
-use Rattle.paths.specs.Registers.{Tags, Key, situation, next, origins}
+use Rattle.paths.specs.Registers.{Tags, situation, next, origins}
 use Rattle.paths.specs.Equal.{same-situation}
 use Rattle.paths.proofs.Builder.{situation-test}
 use Rattle.explore.specs.Lists.{span}
-use Rattle.card.specs.Table.{put, Row, Sit, Table, Rising, Field, FormedSit, FormedSits, Formed}
-use Rattle.build.specs.Card.{State, states, need, most, commands, byte-row, answer-of, field-of, fields-of, sit-of, card-of, tableOf}
+use Rattle.card.specs.Table.{put, Rising, Field, FormedSit, FormedSits, Formed}
+use Rattle.build.specs.Card.{State, states, need, most, byte-row, answer-of, field-of, fields-of, sit-of, card-of, tableOf}
 use Rattle.built.specs.Fits.{Fits}
-use Rattle.built.proofs.Common.{position-at, getD-map, replicate-in}
-use Rattle.built.proofs.States.{state-of, first-state, next-state, most-bound, most-least}
-use Rattle.built.proofs.Commands.{Sound, sound, origins-bound, origins-many, rising, start-commands, start-sets}
+use Rattle.built.proofs.Common.{position-at, replicate-in}
+use Rattle.built.proofs.States.{first-state, next-state, most-bound, most-least}
+use Rattle.built.proofs.Commands.{origins-bound, origins-many, rising, start-commands, start-sets}
 use Rattle.built.proofs.Rows.{rows-upward}
-use Rattle.built.proofs.Ends.{Eight, answer-eight, answer-small, places, end-answer, renamed-eight, end-register}
-
-pub state-sound : (A : Net) (s : State) → List·Memᴰ s (states A) → Sound s
-state-sound A s m = let r = state-of A s m in subst Sound (r .2) (sound A (r .0))
+use Rattle.built.proofs.Ends.{state-sound, ended}
 
 module _ {tags : ℕ} {A : Net} (fits : Fits tags A) where
-  -- what the first END of a situation gives
-  pub record Ended (s : State) (e : ℕ) (τ : Tags) : Type 0 where
-    pub small : e ≤ 254
-    pub eight : Eight tags τ
-    pub below : (t r : ℕ) → getD τ t none ≡ some r → r < need s
-
-  pub ended : (s : State) → List·Memᴰ s (states A) → (e : ℕ) (τ : Tags) → first-end A s ≡ some (e, τ) → Ended s e τ
-  ended s m e τ p =
-      let r = state-of A s m in
-      let a = end-answer A (r .0) e τ (ap (λ v. first-end A v) (r .2) ∙ p) in
-      record {
-        small = answer-small (fits .legal) a;
-        eight = renamed-eight (places A (r .0)) τ (answer-eight (fits .legal) a);
-        below = λ t k q. let c = end-register A s e τ p t k q in subst (λ v. v < need s) (c .2) (state-sound A s m (c .0) (c .1));
-      }
-
   -- ---- a row
 
   good-row : (s : State) → List·Memᴰ s (states A) → (b : ℕ) → b < 256
@@ -63,7 +45,7 @@ module _ {tags : ℕ} {A : Net} (fits : Fits tags A) where
       → (answer-of o ≤ 255) × (length (fields-of o) ≡ 8) × ((t : ℕ) → t < 8 → Field tags (most (states A)) (answer-of o) t (getD (fields-of o) t 0))
   fields-formed s m none p = (omega arith, refl, λ t h. let q = getD-replicate {A = ℕ} 8 t 255 0 h in record { register = inl q; past = λ _. q; none = λ _. q })
   fields-formed s m (some x) p =
-      let d = ended s m (x .0) (x .1) p in
+      let d = ended fits s m (x .0) (x .1) p in
       let z = most-bound s m in (
         omega (arith, d .small),
         length-map (x .1) field-of ∙ d .eight .size,

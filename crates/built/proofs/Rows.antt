@@ -1,28 +1,29 @@
 -- Rows joined: they run upward without gap, and the row of a byte has the next situation and the commands of that byte. Over any 256 rows of
 -- one byte each. Assumes nothing.
-use mathlib.Core.Path.{_≡_, refl, sym, ap, ap₂, _∙_, subst}
-use mathlib.Core.Logic.{_⊎_, inl, inr}
+use mathlib.Core.Path.{_≡_, refl, ap, ap₂, _∙_, subst}
 use mathlib.Core.Bool.{Bool, true, false, cond}
 use mathlib.Core.List.{List, [], _∷_, map}
 use Prim.Native.Nat.{ℕ, zero, suc, _+_, _≤_, _<_}
 use native.Mathlib.Omega.{arith}
 use native.Mathlib.Decide.{decLe}
 use lib.Dec.{eqb, leb}
+use borrow.Author.Tests.{eqb-true}
 use Rattle.ground.specs.Pick.{pick}
+use Rattle.ground.proofs.Picks.{pick-le, pick-not-le}
 use Rattle.paths.specs.Equal.{same-list}
 use Rattle.card.specs.Table.{Cmd, move, put, Row, Rising, Upward}
 use Rattle.card.specs.Run.{noRow, rowFor}
 use Rattle.explore.specs.Lists.{span}
 use Rattle.build.specs.Card.{same-cmd, alike, both, ahead, joined}
-use Rattle.built.proofs.Common.{and-true, list-eq, eqb-yes, pick-true, pick-false, leb-yes, leb-no}
+use Rattle.built.proofs.Common.{and-true, list-eq}
 
 -- ---- rows that are alike
 
 cmd-eq : (a b : Cmd) → same-cmd a b ≡ true → a ≡ b
-cmd-eq (move a b) (move c d) e = let t = and-true (eqb a c) (eqb b d) e in ap₂ (λ x y. move x y) (eqb-yes a c (t .0)) (eqb-yes b d (t .1))
+cmd-eq (move a b) (move c d) e = let t = and-true (eqb a c) (eqb b d) e in ap₂ (λ x y. move x y) (eqb-true a c (t .0)) (eqb-true b d (t .1))
 cmd-eq (move a b) (put c) e = let z : _≡_ {A = ℕ} 0 1 = cc in absurd (omega arith)
 cmd-eq (put a) (move c d) e = let z : _≡_ {A = ℕ} 0 1 = cc in absurd (omega arith)
-cmd-eq (put a) (put c) e = ap put (eqb-yes a c e)
+cmd-eq (put a) (put c) e = ap put (eqb-true a c e)
 
 -- where both lead, and what they do
 pub record Same (p q : Row) : Type 0 where
@@ -32,7 +33,7 @@ pub record Same (p q : Row) : Type 0 where
 alike-same : (p q : Row) → alike p q ≡ true → Same p q
 alike-same p q e =
     let t = and-true (eqb (p .next) (q .next)) (same-list same-cmd (p .cmds) (q .cmds)) e in
-    record { leads = eqb-yes (p .next) (q .next) (t .0); does = list-eq same-cmd cmd-eq (p .cmds) (q .cmds) (t .1) }
+    record { leads = eqb-true (p .next) (q .next) (t .0); does = list-eq same-cmd cmd-eq (p .cmds) (q .cmds) (t .1) }
 
 same-as : {p q : Row} → p ≡ q → Same p q
 same-as e = record { leads = ap (λ r. r .next) e; does = ap (λ r. r .cmds) e }
@@ -87,16 +88,16 @@ module _ (f : ℕ → Row) (lo-is : (b : ℕ) → f b .lo ≡ b) (hi-is : (b : �
 
   row-here : (k : ℕ) (J : List Row) → Reach (k + 1) J → Same (rowFor (ahead (f k) J) k) (f k)
   unfolding rowFor
-  row-here k [] h = same-as (pick-true (f k) noRow (leb-yes k (f k .hi) (omega (arith, hi-is k))))
+  row-here k [] h = same-as (pick-le k (f k .hi) (f k) noRow (omega (arith, hi-is k)))
   row-here k (q ∷ l) h = by (alike (f k) q)
     where
       by : (c : Bool) → Same (rowFor (cond c (both (f k) q ∷ l) (f k ∷ q ∷ l)) k) (f k)
-      by true = let e = pick-true (both (f k) q) (rowFor l k) (leb-yes k (q .hi) (omega arith)) in record { leads = ap (λ r. r .next) e; does = ap (λ r. r .cmds) e }
-      by false = same-as (pick-true (f k) (rowFor (q ∷ l) k) (leb-yes k (f k .hi) (omega (arith, hi-is k))))
+      by true = let e = pick-le k (q .hi) (both (f k) q) (rowFor l k) (omega arith) in record { leads = ap (λ r. r .next) e; does = ap (λ r. r .cmds) e }
+      by false = same-as (pick-le k (f k .hi) (f k) (rowFor (q ∷ l) k) (omega (arith, hi-is k)))
 
   row-past : (k b : ℕ) → k < b → (J : List Row) → Same (rowFor (ahead (f k) J) b) (rowFor J b)
   unfolding rowFor pick
-  row-past k b h [] = same-as (pick-false (f k) noRow (leb-no b (f k .hi) (omega (arith, hi-is k))))
+  row-past k b h [] = same-as (pick-not-le b (f k .hi) (f k) noRow (omega (arith, hi-is k)))
   row-past k b h (q ∷ l) = by (alike (f k) q) refl
     where
       split : (c : Bool) → Same (f k) q → Same (pick c (both (f k) q) (rowFor l b)) (pick c q (rowFor l b))
@@ -105,7 +106,7 @@ module _ (f : ℕ → Row) (lo-is : (b : ℕ) → f b .lo ≡ b) (hi-is : (b : �
 
       by : (c : Bool) → alike (f k) q ≡ c → Same (rowFor (cond c (both (f k) q ∷ l) (f k ∷ q ∷ l)) b) (rowFor (q ∷ l) b)
       by true e = split (leb b (q .hi)) (alike-same (f k) q e)
-      by false e = same-as (pick-false (f k) (rowFor (q ∷ l) b) (leb-no b (f k .hi) (omega (arith, hi-is k))))
+      by false e = same-as (pick-not-le b (f k .hi) (f k) (rowFor (q ∷ l) b) (omega (arith, hi-is k)))
 
   row-joined : (k n b : ℕ) → k ≤ b → b < k + n → Same (rowFor (joined (map f (span k n))) b) (f b)
   unfolding joined span

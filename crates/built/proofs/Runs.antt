@@ -1,39 +1,37 @@
 -- A run of the builder's table goes through the net's situations, and its bank holds the places of their registers: it is never lost.
 -- Assumes nothing.
 use mathlib.Core.Path.{_≡_, refl, sym, ap, ap₂, _∙_, subst}
-use mathlib.Core.Logic.{_⊎_, inl, inr}
 use mathlib.Core.Bool.{Bool, true, false, cond}
 use mathlib.Core.List.{List, [], _∷_, map, List·Memᴰ, Memᴰ·of-map}
-use mathlib.Core.Option.{Option, none, some}
+use mathlib.Core.Option.{none, some}
 use Prim.Native.Nat.{ℕ, zero, suc, _+_, _≤_, _<_}
 use native.Mathlib.Omega.{arith}
 use native.Mathlib.Decide.{decLe}
-use lib.Dec.{ltb, eqb, lt→ltb, ltb→lt}
-use lib.IntN.{ℤ, pos}
-use lib.ListN.{length, getD, set, replicate, length-map, length-replicate, getD-replicate}
+use lib.IntN.{pos}
+use lib.ListN.{length, getD, set, replicate, length-replicate, getD-replicate}
+use borrow.Author.Tests.{lt-ltb, le-ltb, eq-eqb, ne-eqb}
+use Rattle.ground.proofs.Lists.{getD-map}
 use Rattle.net.specs.Rec.{Net, rec}
 use Rattle.paths.specs.Ways.{Turn, first, second, mark, turn}
 use Rattle.paths.specs.Search.{Thread}
 use Rattle.paths.specs.Situation.{close}
 use Rattle.paths.specs.Registers.{Tags, no-tags, tagged, stands, standing, begin, after, Key, held-by, registers, rename, renamed, number, situation, next, origins, fetch, State as Going, feed, run as goes, ready}
 use Rattle.paths.specs.Equal.{same-situation}
-use Rattle.paths.proofs.Member.{T-of, of-T}
 use Rattle.paths.proofs.Common.{getD-mem}
 use Rattle.paths.proofs.Same.{lifts, lifts-close}
 use Rattle.paths.proofs.Numbers.{hat, held-renamed, registers-held}
 use Rattle.paths.proofs.Next.{as-many-registers}
 use Rattle.paths.proofs.Builder.{situation-test}
 use Rattle.paths.proofs.Run.{run-situation}
-use Rattle.card.specs.Table.{put, Sit, Table}
-use Rattle.card.specs.Run.{Bank, absent, empties, reg, Out, ok, apply, noSit, rowFor, sit, rowIn, State as Stand, at, arrive, step, run, begun, over, AllBytes}
-use Rattle.explore.specs.Lists.{span, position}
+use Rattle.card.specs.Run.{Bank, absent, empties, reg, apply, noSit, rowFor, sit, rowIn, State as Stand, at, arrive, step, run, begun, over, AllBytes}
+use Rattle.explore.specs.Lists.{position}
 use Rattle.build.specs.Card.{State, states, need, commands, byte-row, sit-of, card-of, tableOf}
 use Rattle.built.specs.Fits.{Fits}
-use Rattle.built.proofs.Common.{eqb-no, eqb-same, getD-map, replicate-in, position-at, position-zero}
+use Rattle.built.proofs.Common.{replicate-in, position-at, position-zero}
 use Rattle.built.proofs.States.{first-state, next-state}
 use Rattle.built.proofs.Commands.{origins-bound, origins-many, fetched, Applied, applies, start-commands}
 use Rattle.built.proofs.Rows.{Same, row-of}
-use Rattle.built.proofs.Formed.{state-sound}
+use Rattle.built.proofs.Ends.{state-sound}
 
 -- the table stands in the situation that the net's run is in, and each register of that holds its place
 pub record Follows (A : Net) (s : Going) (x : Stand) : Type 0 where
@@ -68,16 +66,12 @@ fetched-place count p bank old h o l = by (decLe count o)
   where
     by : Dec (count ≤ o) → fetched count p bank o ≡ pos (fetch p count old o)
     by (yes g) =
-        let e : o ≡ count = omega arith in
-        subst (λ v. fetched count p bank v ≡ pos (fetch p count old v)) (sym e) (rw (eqb-same count) (ap pos (sym (new (ltb count count) refl))))
-      where
-        new : (c : Bool) → ltb count count ≡ c → cond c (getD old count 0) p ≡ p
-        new true q = let z = ltb→lt count count (T-of q) in absurd (omega arith)
-        new false q = refl
+        ap (λ c. cond c (pos p) (reg bank o)) (eq-eqb o count (omega arith))
+        ∙ ap (λ c. pos (cond c (getD old o 0) p)) (sym (le-ltb o count g))
     by (no g) =
-        ap (λ c. cond c (pos p) (reg bank o)) (eqb-no o count (omega arith))
+        ap (λ c. cond c (pos p) (reg bank o)) (ne-eqb o count (omega arith))
         ∙ h o (omega arith)
-        ∙ ap (λ c. pos (cond c (getD old o 0) p)) (sym (of-T (ltb o count) (lt→ltb o count (omega arith))))
+        ∙ ap (λ c. pos (cond c (getD old o 0) p)) (sym (lt-ltb o count (omega arith)))
 
 module _ {tags : ℕ} {A : Net} (fits : Fits tags A) where
   byte-follows : (p b : ℕ) (s : Going) (x : Stand) → List·Memᴰ (s .sit) (states A) → b < 256 → Follows A s x → Follows A (feed A (suc p) b s) (step (tableOf tags A) x (suc p) b)
@@ -95,9 +89,6 @@ module _ {tags : ℕ} {A : Net} (fits : Fits tags A) where
 
       q′ : ℕ
       q′ = position same-situation (next A b (s .sit)) (states A)
-
-      os : List ℕ
-      os = origins A b (s .sit)
 
       bound : (o : ℕ) → List·Memᴰ o (origins A b (s .sit)) → o ≤ need (s .sit)
       bound = origins-bound A b (s .sit) (state-sound A (s .sit) m)
