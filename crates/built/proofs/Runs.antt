@@ -116,40 +116,43 @@ module _ {tags : ℕ} {A : Net} (fits : Fits tags A) where
   bytes-follow (b ∷ w) p s x m h f =
       bytes-follow w (suc p) (feed A (suc p) b s) (step (tableOf tags A) x (suc p) b) (next-state fits m (h .0)) (h .1) (byte-follows p b s x m (h .0) f)
 
--- ---- the start: every place is 0
+-- ---- the start: every place is 0, so that putting 0 for each changes nothing
 
-set-zero : (t : ℕ) (τ : Tags) (u : ℕ) → set (renamed (λ t p. 0) t τ) u (some 0) ≡ renamed (λ t p. 0) t (set τ u (some 0))
+abbrev zeros : ℕ → ℕ → ℕ
+zeros t p = 0
+
+set-zero : (t : ℕ) (τ : Tags) (u : ℕ) → set (renamed zeros t τ) u (some 0) ≡ renamed zeros t (set τ u (some 0))
 set-zero t [] u = refl
 set-zero t (none ∷ τ) zero = refl
 set-zero t (some p ∷ τ) zero = refl
 set-zero t (none ∷ τ) (suc u) = ap (λ r. none ∷ r) (set-zero (suc t) τ u)
 set-zero t (some p ∷ τ) (suc u) = ap (λ r. some 0 ∷ r) (set-zero (suc t) τ u)
 
-turn-zero : (u : Turn) (τ : Tags) → tagged 0 (turn u) (renamed (λ t p. 0) 0 τ) ≡ renamed (λ t p. 0) 0 (tagged 0 (turn u) τ)
+turn-zero : (u : Turn) (τ : Tags) → tagged 0 (turn u) (renamed zeros 0 τ) ≡ renamed zeros 0 (tagged 0 (turn u) τ)
 turn-zero first τ = refl
 turn-zero second τ = refl
 turn-zero (mark t) τ = set-zero 0 τ t
 
-standing-zero : (A : Net) (l : List (Thread Tags)) → standing A (lifts (renamed (λ t p. 0) 0) l) ≡ rename (λ t p. 0) (standing A l)
+standing-zero : (A : Net) (l : List (Thread Tags)) → standing A (lifts (renamed zeros 0) l) ≡ rename zeros (standing A l)
 standing-zero A [] = refl
 standing-zero A (s ∷ l) = rw (standing-zero A l) (by (stands (rec A (s .on))))
   where
     s′ : Thread Tags
-    s′ = record { on = s .on; had = renamed (λ t p. 0) 0 (s .had) }
+    s′ = record { on = s .on; had = renamed zeros 0 (s .had) }
 
-    by : (c : Bool) → cond c (s′ ∷ rename (λ t p. 0) (standing A l)) (rename (λ t p. 0) (standing A l)) ≡ rename (λ t p. 0) (cond c (s ∷ standing A l) (standing A l))
+    by : (c : Bool) → cond c (s′ ∷ rename zeros (standing A l)) (rename zeros (standing A l)) ≡ rename zeros (cond c (s ∷ standing A l) (standing A l))
     by true = refl
     by false = refl
 
-begin-zero : (A : Net) → begin A ≡ rename (λ t p. 0) (begin A)
+begin-zero : (A : Net) → begin A ≡ rename zeros (begin A)
 unfolding begin
 begin-zero A =
-    ap (standing A) (lifts-close (renamed (λ t p. 0) 0) (tagged 0) (tagged 0) A turn-zero (record { on = 0; had = no-tags } ∷ []))
+    ap (standing A) (lifts-close (renamed zeros 0) (tagged 0) (tagged 0) A turn-zero (record { on = 0; had = no-tags } ∷ []))
     ∙ standing-zero A (close (tagged 0) A (record { on = 0; had = no-tags } ∷ []))
 
 at-zero : (A : Net) (k : Key) → List·Memᴰ k (registers (begin A)) → k .1 ≡ 0
 at-zero A k m =
-    let c = Memᴰ·of-map (hat (λ t p. 0)) (held-by (begin A)) (rw (held-renamed (λ t p. 0) (begin A)) at (subst (λ l. List·Memᴰ k (held-by l)) (begin-zero A) (registers-held (begin A) m))) in
+    let c = Memᴰ·of-map (hat zeros) (held-by (begin A)) (rw (held-renamed zeros (begin A)) at (subst (λ l. List·Memᴰ k (held-by l)) (begin-zero A) (registers-held (begin A) m))) in
     sym (ap (λ v. v .1) (c .2))
 
 first-situation : (A : Net) → situation A [] ≡ number (begin A)

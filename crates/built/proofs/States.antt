@@ -79,13 +79,12 @@ module _ {A : Net} {n : ℕ} (c : Closes A n) where
 
   pub closes-fits : {tags : ℕ} → Legal tags A → Fits tags A
   closes-fits legal =
-      record { legal = legal; few = rw closes-states (omega (arith, c .whole, c .few)); slim = slim; complete = λ w h. rw closes-states (closed-every A n shut w (input-of w h)) }
-    where
-      slim : (s : State) → List·Memᴰ s (states A) → need s ≤ 64
-      slim s m =
-          let r = mem-getD [] (rw closes-states at m) in
-          let q = c .small (r .0) (omega (arith, r .1 .0, c .whole)) in
-          omega (arith, ap need (r .1 .1))
+      record {
+        legal = legal;
+        few = rw closes-states (omega (arith, c .whole, c .few));
+        slim = λ s m. let r = mem-getD [] (rw closes-states at m) in omega (arith, ap need (r .1 .1), c .small (r .0) (omega (arith, r .1 .0, c .whole)));
+        complete = λ w h. rw closes-states (closed-every A n shut w (input-of w h));
+      }
 
 -- legal, and neither REGISTERS nor SITUATIONS
 pub fits-exactly : {tags : ℕ} {A : Net} → Fits tags A ↔ (Legal tags A × (¬ Over-registers A) × (¬ Over-situations A))
