@@ -1,8 +1,7 @@
 -- Laws of what two places cut out of a line. Assumes nothing.
 use Prim.Native.Nat.{ℕ, _+_, _-_, _≤_}
-use native.Mathlib.Nat.{zero-add}
 use native.Mathlib.Omega.{arith}
-use mathlib.Core.Path.{_≡_, refl, sym, ap, ap₂, _∙_}
+use mathlib.Core.Path.{_≡_, refl, sym, ap₂, _∙_}
 use mathlib.Core.Bool.{Bool, true, false}
 use mathlib.Core.List.{List}
 use denote.Ref.{RefT, now, ptr}
@@ -57,8 +56,8 @@ pub handed-part : (line : RefT (List ℕ)) {c : Cut} {r : RefT (List ℕ)} (a e 
 handed-part line a e t b p = handed-by line t (record { bytes = b; begins = p })
 
 pub handed-none : (line : RefT (List ℕ)) {c : Cut} {r : RefT (List ℕ)} (k : ℕ) → c ≡ Refused k
-    → now r ≡ bytesOf (Refused k) (now line) → ptr r ≡ ptr line → Handed line c r
-handed-none line k t b p = handed-by line t (record { bytes = b; begins = p ∙ ap (λ (o : ℕ). (ptr line .0, o)) (sym (zero-add (ptr line .1))) })
+    → now r ≡ bytesOf (Refused k) (now line) → ptr r ≡ (ptr line .0, startOf (Refused k) + ptr line .1) → Handed line c r
+handed-none line k t b p = handed-by line t (record { bytes = b; begins = p })
 
 -- a second result that meets the promise of `between`, or of `field_code`, is equal
 pub one-cut : (n : ℕ) (from to : ℤ) {r s : Cut} → r ≡ cutOf n (placeOf from) (placeOf to) → s ≡ cutOf n (placeOf from) (placeOf to) → r ≡ s

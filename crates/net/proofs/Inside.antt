@@ -1,5 +1,5 @@
 -- Where the bytes of a placed record stand, and what record it is. Assumes nothing.
-use mathlib.Core.Path.{_≡_, refl, sym, ap, _∙_}
+use mathlib.Core.Path.{_≡_, refl, sym, ap, _∙_, subst}
 use mathlib.Core.Bool.{Bool, true, false, cond}
 use mathlib.Core.List.{List, [], _∷_, map}
 use Prim.Native.Nat.{ℕ, zero, suc, _+_, _≤_, _<_}
@@ -7,9 +7,10 @@ use native.Mathlib.Omega.{arith}
 use lib.Dec.{eqb}
 use lib.ListN.{length, getD, length-map}
 use Rattle.net.specs.Rec.{Rec, mask, Net, rec}
-use Rattle.net.specs.File.{Fits, Legal}
-use Rattle.net.specs.Items.{rec-at, net-at, size, Placed}
-use Rattle.net.proofs.Common.{every-from}
+use Rattle.net.specs.File.{Every, Fits, Legal}
+use Rattle.net.specs.Items.{rec-at, net-at, size, starts, got, itemAt, Placed}
+use Rattle.net.proofs.Common.{every-at, every-from}
+use Rattle.net.proofs.Whole.{Stands, kind-known, reads-from, net-head, item-got}
 
 getD-map : {A B : Type 0} (f : A → B) (l : List A) (i : ℕ) (d : A) (e : B) → i < length l → getD (map f l) i e ≡ f (getD l i d)
 getD-map f [] i d e h = absurd (omega arith)
@@ -43,6 +44,22 @@ module _ {s : List ℕ} {tags : ℕ} {offs : List ℕ} (w : Placed s tags offs) 
 
     pub rec-inside : Fits tags (length offs) (rec (net-at s offs) r)
     rec-inside = rw (rec-net s offs r b) (w .inside r b)
+
+  pub placed-stands : Every (Stands s tags (length offs)) offs
+  placed-stands =
+      let l = net-length s offs in
+      let h = net-head s tags (net-at s offs) (w .reads) in
+      let r : Every (Stands s tags (length offs)) (starts (length offs) s 4) = rw l at (reads-from s tags (length (net-at s offs)) (length (net-at s offs)) 4 (h .fine) .stand) in
+      subst (Every (Stands s tags (length offs))) (sym (w .follow)) r
+
+  module _ (r : ℕ) (b : r < length offs) where
+    pub stands : Stands s tags (length offs) (getD offs r 0)
+    stands = every-at (Stands s tags (length offs)) offs placed-stands 0 r b
+
+    pub item-there : itemAt s (getD offs r 0) tags (length offs) ≡ got (rec-at s (getD offs r 0)) (getD offs r 0 + size (getD s (getD offs r 0) 0))
+    item-there =
+        let t = stands in
+        item-got s (getD offs r 0) tags (length offs) (getD s (getD offs r 0) 0) (rec-at s (getD offs r 0)) refl (kind-known (t .kind)) (omega (arith, kind-in r b)) (t .whole) refl (t .ranged)
 
   pub placed-legal : Legal tags (net-at s offs)
   placed-legal =

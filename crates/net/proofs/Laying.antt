@@ -22,25 +22,25 @@ use Rattle.net.proofs.Whole.{number-pos, taken, placed, head-taken, cod
 
 -- ---- what the reader hands on, taken back
 
-pub head-counts : (h : HeadRead) (t c : ℕ) → head-shown h ≡ Counts t c → h ≡ counts t c
+pub head-counts : (h : HeadRead) (n : Head) (t c : ℕ) → n ≡ head-shown h → n ≡ Counts t c → h ≡ counts t c
 unfolding head-shown
-head-counts (counts t' c') t c e = ap₂ counts (cc) (cc)
-head-counts (bad f) t c e = let z : _≡_ {A = ℕ} 0 1 = cc in absurd (omega arith)
+head-counts (counts t' c') n t c g e = ap₂ counts (cc) (cc)
+head-counts (bad f) n t c g e = let z : _≡_ {A = ℕ} 0 1 = cc in absurd (omega arith)
 
-pub head-bad : (h : HeadRead) (e : ℕ) → head-shown h ≡ Bad e → (f : NetFault) × (h ≡ bad f) × (e ≡ number f)
+pub head-bad : (h : HeadRead) (n : Head) (e : ℕ) → n ≡ head-shown h → n ≡ Bad e → (f : NetFault) × (h ≡ bad f) × (e ≡ number f)
 unfolding head-shown
-head-bad (counts t c) e p = let z : _≡_ {A = ℕ} 0 1 = cc in absurd (omega arith)
-head-bad (bad f) e p = (f, refl, cc)
+head-bad (counts t c) n e g p = let z : _≡_ {A = ℕ} 0 1 = cc in absurd (omega arith)
+head-bad (bad f) n e g p = (f, refl, cc)
 
-pub shown-got : (at : ℕ) (i : ItemRead) (y : Item) (p : ℕ) → shown at i ≡ Got y p → (x : Rec) × (i ≡ got x p) × (y ≡ item-shown at x)
+pub shown-got : (at : ℕ) (i : ItemRead) (n : Next) (y : Item) (p : ℕ) → n ≡ shown at i → n ≡ Got y p → (x : Rec) × (i ≡ got x p) × (y ≡ item-shown at x)
 unfolding shown
-shown-got at (got x q) y p e = (x, ap (got x) (cc), cc)
-shown-got at (stop f) y p e = let z : _≡_ {A = ℕ} 0 1 = cc in absurd (omega arith)
+shown-got at (got x q) n y p g e = (x, ap (got x) (cc), cc)
+shown-got at (stop f) n y p g e = let z : _≡_ {A = ℕ} 0 1 = cc in absurd (omega arith)
 
-pub shown-stop : (at : ℕ) (i : ItemRead) (e : ℕ) → shown at i ≡ Refused e → (f : NetFault) × (i ≡ stop f) × (e ≡ number f)
+pub shown-stop : (at : ℕ) (i : ItemRead) (n : Next) (e : ℕ) → n ≡ shown at i → n ≡ Refused e → (f : NetFault) × (i ≡ stop f) × (e ≡ number f)
 unfolding shown
-shown-stop at (got x q) e p = let z : _≡_ {A = ℕ} 0 1 = cc in absurd (omega arith)
-shown-stop at (stop f) e p = (f, refl, cc)
+shown-stop at (got x q) n e g p = let z : _≡_ {A = ℕ} 0 1 = cc in absurd (omega arith)
+shown-stop at (stop f) n e g p = (f, refl, cc)
 
 -- ---- a refused file
 

@@ -5,9 +5,9 @@ use mathlib.Core.List.{List, [], _∷_, _++_, map, append-assoc}
 use Prim.Native.Nat.{ℕ, zero, suc, _+_, _-_, _≤_, _<_}
 use native.Mathlib.Omega.{arith}
 use lib.Dec.{ltb, leb, eqb}
-use lib.ListN.{length, getD, take, drop, take-append-drop, length-take, length-drop, drop-of-length-le}
+use lib.ListN.{length, getD, take, drop, take-append-drop, length-drop, length-map, drop-of-length-le}
 use lib.Seq.{drop-drop, getD-take, getD-drop, length-take-le}
-use borrow.Author.Tests.{ltb-true, ltb-false, leb-true, leb-false, eqb-true, eqb-false, not-false}
+use borrow.Author.Tests.{lt-leb, le-ltb, ltb-true, ltb-false, leb-true, leb-false, eqb-true, eqb-false, not-false}
 use Rattle.ground.specs.Pick.{pick}
 use Rattle.ground.specs.Lists.{each}
 use Rattle.net.specs.Rec.{Rec, range, mask, fork, tag, end, Net}
@@ -51,6 +51,13 @@ kind-of k h =
     by false p false q false r true s l h = is-tag (eqb-true k 20 s)
     by false p false q false r false s l h = is-end (omega (arith, eqb-false k 17 p, eqb-false k 18 q, eqb-false k 19 r, eqb-false k 20 s))
 
+pub kind-known : {k : ℕ} → Kind k → known k ≡ true
+kind-known (is-range e) = rw e
+kind-known (is-mask e) = rw e
+kind-known (is-fork e) = rw e
+kind-known (is-tag e) = rw e
+kind-known (is-end e) = rw e
+
 -- ---- an item that is taken
 
 pub record Taken (s : List ℕ) (at tags count : ℕ) (x : Rec) (after : ℕ) : Type 0 where
@@ -87,6 +94,10 @@ module _ (s : List ℕ) (at tags count : ℕ) where
   pub taken : (x : Rec) (after : ℕ) → itemAt s at tags count ≡ got x after → Taken s at tags count x after
   unfolding IfTaken
   taken x after e = subst IfTaken e all-taken
+
+pub item-got : (s : List ℕ) (at tags count k : ℕ) (x : Rec) → getD s at 0 ≡ k → known k ≡ true → at < length s → at + size k ≤ length s → rec-at s at ≡ x → in-range tags count x ≡ true → itemAt s at tags count ≡ got x (at + size k)
+unfolding itemAt bodyAt pick
+item-got s at tags count k x e n m w h r = rw (lt-leb _ _ m, e, n, le-ltb _ _ w, h, r)
 
 -- ---- its bytes, and that its fields are in range
 
@@ -246,6 +257,36 @@ module _ (s : List ℕ) where
   head-taken tags count e = subst IfHead e all-heads
 
 -- ---- the file
+
+pub net-tags : {t u : ℕ} {A B : Net} → net t A ≡ net u B → t ≡ u
+net-tags e = cc
+
+pub net-recs : {t u : ℕ} {A B : Net} → net t A ≡ net u B → A ≡ B
+net-recs e = cc
+
+-- a file that reads as a net has its HEAD, and its records stand one after the other
+pub record Held (s : List ℕ) (tags : ℕ) (A : Net) : Type 0 where
+  pub head : headOf s ≡ counts tags (length A)
+  pub fine : codeOf (recsFrom (length A) s 4 tags (length A)) ≡ 0
+  pub recs : A ≡ net-at s (starts (length A) s 4)
+
+module _ (s : List ℕ) (tags : ℕ) (A : Net) where
+  by-head : (h : HeadRead) → headOf s ≡ h → netOf s ≡ net tags A → Held s tags A
+  unfolding netOf after-head codeOf net-at
+  by-head (bad f) e n = let z : refused f ≡ net tags A = rw e at n in let o : _≡_ {A = ℕ} 0 1 = cc in absurd (omega arith)
+  by-head (counts t c) e n =
+      let m : recsFrom c s 4 t c ≡ net tags A = rw e at n in
+      let fine : codeOf (recsFrom c s 4 t c) ≡ 0 = rw m in
+      let same : net t (net-at s (starts c s 4)) ≡ net tags A = sym (reads-from s t c c 4 fine .reads) ∙ m in
+      let l : length A ≡ c = ap length (sym (net-recs same)) ∙ length-map (starts c s 4) (rec-at s) ∙ starts-length s t c c 4 in
+      record {
+        head = e ∙ ap₂ counts (net-tags same) (sym l);
+        fine = rw (l, ← net-tags same) fine;
+        recs = rw l (sym (net-recs same));
+      }
+
+  pub net-head : netOf s ≡ net tags A → Held s tags A
+  net-head n = by-head (headOf s) refl n
 
 module _ (s : List ℕ) (tags count : ℕ) (head : headOf s ≡ counts tags count) (fine : codeOf (recsFrom count s 4 tags count) ≡ 0) where
   r : Reads s tags count count 4

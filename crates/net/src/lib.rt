@@ -1,9 +1,10 @@
-// The automaton file: a reader of its items, the check of a whole file, the places of its records.
+// The automaton file: a reader of its items, the check of a whole file, the places of its records, and byte counts.
 ghost use mathlib.Core.Path.{_≡_};
-ghost use Prim.Native.Nat.{ℕ, _+_, _<_};
-ghost use lib.ListN.{length, getD};
+ghost use Prim.Native.Nat.{ℕ, _+_, _*_, _<_, _≤_};
+ghost use lib.ListN.{length, getD, take, drop};
 ghost use Rattle.net.specs.Items.{headOf, bodyAt, itemAt, netOf, codeOf};
 ghost use Rattle.net.specs.Calls.{head-shown, shown, head-refusal-of, refusal-of, no-layout, LayoutOf};
+ghost use Rattle.net.specs.Count.{count-below, between, bit-set, refuse, rec-count, rec-shown, Countable, byteCount};
 
 pub const NET_KIND: u8 = 5;
 
@@ -12,6 +13,8 @@ pub const NET_SHORT: u8 = 6;
 pub const NET_FIELD: u8 = 7;
 
 pub const NET_EXTRA: u8 = 8;
+
+pub const NOT_BYTES: u8 = 20;
 
 // What reading the HEAD gives: tags and count, or the refusal.
 pub enum Head {
@@ -247,4 +250,102 @@ pub fn check(net: &[u8]) -> u8
 {
     let p = places(net);
     p.code
+}
+
+// Eight bytes as one word.
+fn word(a: u8, b: u8, c: u8, d: u8, e: u8, f: u8, g: u8, h: u8) -> u64
+    ensures { λ r. ⌜ r ≡ ((((((a * 256 + b) * 256 + c) * 256 + d) * 256 + e) * 256 + f) * 256 + g) * 256 + h ⌝ }
+{
+    let top = (((a as u64) * 256 + (b as u64)) * 256 + (c as u64)) * 256 + (d as u64);
+    (((top * 256 + (e as u64)) * 256 + (f as u64)) * 256 + (g as u64)) * 256 + (h as u64)
+}
+
+// How many bits are set in the eight bytes at a place.
+fn ones_at(s: &[u8], at: usize) -> u32
+    requires { ⌜ at + 8 ≤ length (now s) ⌝ }
+    ensures { λ r. ⌜ (r ≡ count-below 64 (bit-set (drop at (now (s .entry))))) × (r ≤ 64) ⌝ }
+{
+    let w = word(
+        s[at],
+        s[at + 1],
+        s[at + 2],
+        s[at + 3],
+        s[at + 4],
+        s[at + 5],
+        s[at + 6],
+        s[at + 7],
+    );
+    u64::count_ones(w)
+}
+
+// How many bytes a MASK takes whose 32 bytes are at a place: four words.
+fn mask_count(s: &[u8], at: usize) -> u32
+    requires { ⌜ at + 32 ≤ length (now s) ⌝ }
+    ensures { λ r. ⌜ r ≡ count-below 256 (bit-set (take 32 (drop at (now (s .entry))))) ⌝ }
+{
+    ones_at(s, at) + ones_at(s, at + 8) + ones_at(s, at + 16) + ones_at(s, at + 24)
+}
+
+// How many bytes a RANGE takes.
+fn range_count(lo: u8, hi: u8) -> u32
+    requires { ⌜ lo ≤ hi ⌝ }
+    ensures { λ r. ⌜ r ≡ count-below 256 (between lo hi) ⌝ }
+{
+    (hi - lo) as u32 + 1
+}
+
+// The number of the answer, and the count, which is 0 unless that is 0.
+pub struct Count {
+    pub code: u8,
+    pub count: u32,
+}
+
+fn refused(code: u8) -> Count
+    ensures { λ r. ⌜ r ≡ refuse code ⌝ }
+{
+    Count {
+        code: code,
+        count: 0,
+    }
+}
+
+// How many bytes a record takes that the reader has handed on.
+fn item_count(s: &[u8], item: Item) -> Count
+    requires { ⌜ Countable (now s) item ⌝ }
+    ensures { λ r. ⌜ r ≡ rec-count (rec-shown (now (s .entry)) item) ⌝ }
+{
+    match item {
+        Item::Range(lo, hi, _) => Count {
+            code: 0,
+            count: range_count(lo, hi),
+        },
+        Item::Mask(at, _) => Count {
+            code: 0,
+            count: mask_count(s, at),
+        },
+        Item::Fork(_, _) => refused(NOT_BYTES),
+        Item::Tag(_, _) => refused(NOT_BYTES),
+        Item::End(_) => refused(NOT_BYTES),
+    }
+}
+
+// How many of the 256 bytes the record of that number takes. The whole file is judged first.
+pub fn byte_count(net: &[u8], index: usize) -> Count
+    ensures { λ r. ⌜ r ≡ byteCount (now (net .entry)) index ⌝ }
+{
+    let p = places(net);
+    let code = p.code;
+    if code != 0 {
+        return refused(code);
+    }
+    let count = p.count;
+    if count <= index {
+        return refused(NOT_BYTES);
+    }
+    let offs = p.at;
+    let n = next_item(net, offs[index], p.tags, count as u8);
+    let Next::Got(item, _) = n else {
+        return refused(refusal(n));
+    };
+    item_count(net, item)
 }

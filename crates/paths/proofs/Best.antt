@@ -1,22 +1,22 @@
 -- The earliest paths: there is one situation after an input, and the earliest path after one more byte goes on from an earliest path. Assumes nothing.
 use mathlib.Core.Path.{_≡_, refl, sym, ap, ap₂, _∙_, subst}
 use mathlib.Core.Logic.{_⊎_, inl, inr}
-use mathlib.Core.List.{List, [], _∷_, _++_, append-assoc, List·Memᴰ, List·Memᴰ·head, List·Memᴰ·tail}
-use Prim.Native.Nat.{ℕ, zero, suc}
+use mathlib.Core.List.{List, [], _∷_, _++_, List·Memᴰ}
+use Prim.Native.Nat.{ℕ, suc}
 use lib.ListN.{length}
 use lib.Seq.{append-snoc}
 use Rattle.net.specs.Rec.{Net, rec}
 use Rattle.ground.specs.Lists.{each}
-use Rattle.paths.specs.Ways.{Move, eat, Step, Way, eaten, Earlier}
-use Rattle.paths.specs.Search.{Thread, ons, firsts, paths}
+use Rattle.paths.specs.Ways.{Move, eat, eaten, Earlier}
+use Rattle.paths.specs.Search.{Thread, paths}
 use Rattle.paths.specs.Situation.{bite, on-quiet, on-byte, close, threads}
 use Rattle.paths.specs.Registers.{standing}
-use Rattle.paths.specs.Meaning.{Stands, Best, Sorted, Situation, trails}
+use Rattle.paths.specs.Meaning.{Best, Sorted, Situation, trails}
 use Rattle.paths.proofs.Common.{each-cases, Ordered, one-order}
 use Rattle.paths.proofs.Member.{ons-mem}
-use Rattle.paths.proofs.Closure.{Done, firsts-in}
+use Rattle.paths.proofs.Closure.{firsts-in}
 use Rattle.paths.proofs.Heart.{closing}
-use Rattle.paths.proofs.Faithful.{onto, Trail, follow-cases, all-at, Bite, bites, Reached, sound}
+use Rattle.paths.proofs.Faithful.{onto, Trail, follow-cases, all-at, Bite, bites, sound}
 use Rattle.paths.proofs.Answers.{asym}
 use Rattle.paths.proofs.Bridge.{byte-standing}
 use Rattle.paths.proofs.Meant.{trails-right, trails-threads, standing-in}

@@ -7,7 +7,7 @@ use Prim.Native.Nat.{ℕ, zero, suc, _+_, _≤_}
 use native.Mathlib.Omega.{arith}
 use lib.ListN.{length, set, length-set}
 use Rattle.net.specs.Rec.{Net}
-use Rattle.paths.specs.Ways.{Turn, first, second, mark, Move, eat, turn, eaten, Held, empty-handed, act, held, Answer}
+use Rattle.paths.specs.Ways.{first, second, mark, Move, eat, turn, eaten, Held, empty-handed, act, held, Answer}
 use Rattle.paths.specs.Search.{Thread}
 use Rattle.paths.specs.Registers.{Tags, no-tags, tagged, step, begin, after, index, registers, number, situation}
 use Rattle.paths.proofs.Next.{single, each-close, each-byte, each-standing}

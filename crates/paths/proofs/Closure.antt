@@ -1,15 +1,13 @@
 -- The search with one set of marks finds, for each record, the first of all paths to it, in order. Assumes nothing.
-use mathlib.Core.Path.{_≡_, refl, sym, ap, _∙_, subst}
+use mathlib.Core.Path.{_≡_, refl, sym, ap, _∙_}
 use mathlib.Core.Logic.{_⊎_, inl, inr}
-use mathlib.Core.Bool.{Bool, true, false}
-use mathlib.Core.List.{List, [], _∷_, _++_, foldl, foldl-append, List·Memᴰ, List·Memᴰ·head, List·Memᴰ·tail, List·Memᴰ·cases-cons, List·Memᴰ·append-cases, List·Memᴰ·eq-of-singleton, Memᴰ·cast}
-use Prim.Native.Nat.{ℕ, zero, suc, _+_, _≤_, _<_}
+use mathlib.Core.List.{List, [], _∷_, _++_, foldl, List·Memᴰ, List·Memᴰ·head, List·Memᴰ·tail, List·Memᴰ·cases-cons, Memᴰ·cast}
+use Prim.Native.Nat.{ℕ, zero, suc, _<_}
 use native.Mathlib.Omega.{arith}
-use lib.ListN.{length}
 use Rattle.ground.specs.Lists.{each}
-use Rattle.paths.specs.Search.{choose, has, Thread, ons, add, firsts, paths, visit}
+use Rattle.paths.specs.Search.{Thread, ons, add, firsts, paths, visit}
 use Rattle.paths.proofs.Firsts.{Keyed, gather-append, gather-known, gather-keeps, gather-has, gather-in}
-use Rattle.paths.proofs.Member.{Bool-cases, choose-true, choose-false, has→mem, mem→has, hasnt→not, not→hasnt, mem-or-not, _⊆_, in-left, in-right, in-cases, in-each, mem-ons, equal-or-not, Enough, never, deeper, enough}
+use Rattle.paths.proofs.Member.{choose-true, choose-false, mem→has, not→hasnt, mem-or-not, _⊆_, in-left, in-right, in-cases, in-each, mem-ons, equal-or-not, Enough, never, deeper, enough}
 
 module _ {X : Type 0} where
   -- ---- `firsts`: the first thread on each record

@@ -2,7 +2,7 @@
 use mathlib.Core.Path.{_≡_, refl, sym, ap, ap₂, _∙_, subst}
 use mathlib.Core.Logic.{_⊎_, inl, inr}
 use mathlib.Core.List.{List, [], _∷_, _++_, map, append-nil, append-assoc, List·Memᴰ, List·Memᴰ·head, List·Memᴰ·tail, List·Memᴰ·cases-cons, List·Memᴰ·append-cases, Memᴰ·append-left, Memᴰ·append-right}
-use Prim.Native.Nat.{ℕ, zero, suc, _+_, _≤_, _<_}
+use Prim.Native.Nat.{ℕ, zero, suc, _≤_, _<_}
 use native.Mathlib.Omega.{arith}
 use lib.ListN.{length, getD, take, drop, take-append-drop, length-append, List·getD-append}
 use lib.Seq.{take-append-le}
@@ -46,6 +46,10 @@ getD-mem (x ∷ l) (suc i) d h = List·Memᴰ·tail (getD-mem l i d (omega arith
 pub mem-getD : {A : Type 0} (d : A) {x : A} {l : List A} → List·Memᴰ x l → (i : ℕ) × ((i < length l) × (getD l i d ≡ x))
 mem-getD d (List·Memᴰ·head e) = (0, (omega arith, sym e))
 mem-getD d (List·Memᴰ·tail m) = let r = mem-getD d m in (suc (r .0), (omega (arith, r .1 .0), r .1 .1))
+
+pub mem-split : {A : Type 0} {x : A} {l : List A} → List·Memᴰ x l → (pre : List A) × ((post : List A) × (l ≡ pre ++ x ∷ post))
+mem-split (List·Memᴰ·head {xs = xs} e) = ([], (xs, ap (λ y. y ∷ xs) (sym e)))
+mem-split (List·Memᴰ·tail {x = y} m) = let r = mem-split m in (y ∷ r .0, (r .1 .0, ap (λ k. y ∷ k) (r .1 .1)))
 
 -- ---- one list is the beginning of another
 

@@ -7,7 +7,7 @@ use Prim.Native.Nat.{ℕ, zero, suc}
 use mathlib.Core.Bool.{true, false}
 use lib.Dec.{ltb}
 use lib.ListN.{take, replicate, length}
-use Rattle.net.specs.Rec.{Rec, range, mask, fork, tag, end, Net}
+use Rattle.net.specs.Rec.{Rec, range, fork, tag, end, Net}
 use Rattle.paths.specs.Ways.{Held}
 use Rattle.paths.specs.Situation.{answer, threads, close, on-quiet, on-byte}
 use Rattle.paths.specs.Search.{visit}
@@ -103,7 +103,7 @@ unfolding explored situation next number registers after begin step close on-qui
 five-dots = refl
 
 -- "six `.`: SITUATIONS": there is a 97th
-six-dots : ltb 96 (length (found (97 ∷ 98 ∷ []) (shift 6) 96)) ≡ true
+six-dots : ltb 96 (length (found (97 ∷ 98 ∷ []) (shift 6) 49)) ≡ true
 unfolding explored situation next number registers after begin step close on-quiet on-byte visit
 six-dots = refl
 

@@ -2,16 +2,14 @@
 use mathlib.Core.Path.{_≡_, refl, sym, ap, _∙_, subst}
 use mathlib.Core.Logic.{_⊎_, inl, inr}
 use mathlib.Core.Bool.{Bool, true, false, _||_}
-use mathlib.Core.List.{List, [], _∷_, _++_, map, foldl, foldl-append, append-nil, append-assoc, List·Memᴰ, List·Memᴰ·head, List·Memᴰ·tail, List·Memᴰ·cases-cons, List·Memᴰ·append-cases, List·Memᴰ·eq-of-singleton, Memᴰ·append-left, Memᴰ·append-right, Memᴰ·cast, Memᴰ·of-map}
-use Prim.Native.Nat.{ℕ, zero, suc, _+_, _-_, _≤_, _<_}
-use native.Mathlib.Nat.{zero-add}
+use mathlib.Core.List.{List, [], _∷_, _++_, map, append-nil, List·Memᴰ, List·Memᴰ·head, List·Memᴰ·tail, List·Memᴰ·cases-cons, List·Memᴰ·append-cases, List·Memᴰ·eq-of-singleton, Memᴰ·append-right, Memᴰ·cast, Memᴰ·of-map}
+use Prim.Native.Nat.{ℕ, zero, suc, _+_, _-_, _≤_}
 use native.Mathlib.Numerals.{add-one}
 use native.Mathlib.Omega.{arith}
 use native.Mathlib.Decide.{decLe}
-use lib.ListN.{length, take, drop, take-append-drop, drop-of-length-le}
-use lib.Seq.{take-add, take-append-le, take-all, append-snoc}
+use lib.ListN.{length, take, drop, drop-of-length-le}
+use lib.Seq.{take-add, take-all, append-snoc}
 use Rattle.ground.specs.Lists.{each}
-use Rattle.paths.specs.Search.{choose}
 use Rattle.paths.specs.Numbering.{words, upto, among, put, once, numbered, nexts, explored}
 use Rattle.paths.proofs.Member.{Bool-cases, choose-true, choose-false}
 pub use Rattle.paths.proofs.Common.{Prefix}
@@ -184,12 +182,15 @@ module _ {S : Type 0} (eq : S → S → Bool) (eq-right : (s t : S) → (eq s t 
     words-upto zero m = m
     words-upto (suc n) m = Memᴰ·append-right (upto B n) m
 
-    pub numbered-has : (w : List ℕ) → ((b : ℕ) → List·Memᴰ b w → List·Memᴰ b B) → List·Memᴰ (sit w) (numbered eq B sit (length w))
-    unfolding numbered words
-    numbered-has w h =
-        let m = words-has w h [] 0 (List·Memᴰ·head refl) in
+    pub upto-has : (w : List ℕ) → ((b : ℕ) → List·Memᴰ b w → List·Memᴰ b B) → List·Memᴰ w (upto B (length w))
+    unfolding words
+    upto-has w h =
         let e : 0 + length w ≡ length w = omega arith in
-        gather-has by-state (map sit (upto B (length w))) [] (map-has sit (words-upto (length w) (subst (λ k. List·Memᴰ w (words B k)) e m)))
+        words-upto (length w) (subst (λ k. List·Memᴰ w (words B k)) e (words-has w h [] 0 (List·Memᴰ·head refl)))
+
+    pub numbered-has : (w : List ℕ) → ((b : ℕ) → List·Memᴰ b w → List·Memᴰ b B) → List·Memᴰ (sit w) (numbered eq B sit (length w))
+    unfolding numbered
+    numbered-has w h = gather-has by-state (map sit (upto B (length w))) [] (map-has sit (upto-has w h))
 
     pub numbered-sole : (n : ℕ) → Sole by-state (numbered eq B sit n)
     unfolding numbered
@@ -208,7 +209,7 @@ module _ {S : Type 0} (eq : S → S → Bool) (eq-right : (s t : S) → (eq s t 
         by v a i ih (inl j) = ih j
         by v a i ih (inr j) = Memᴰ·cast (List·Memᴰ·eq-of-singleton j) i
 
-    upto-of : (n : ℕ) {w : List ℕ} → List·Memᴰ w (upto B n) → (b : ℕ) → List·Memᴰ b w → List·Memᴰ b B
+    pub upto-of : (n : ℕ) {w : List ℕ} → List·Memᴰ w (upto B n) → (b : ℕ) → List·Memᴰ b w → List·Memᴰ b B
     unfolding upto
     upto-of zero m = words-of zero m
     upto-of (suc n) {w} m = by (λ k. upto-of n k) (List·Memᴰ·append-cases (upto B n) m)

@@ -1,19 +1,19 @@
 -- After any input the builder's list is the first of all admissible paths to each record, in order. Assumes nothing.
-use mathlib.Core.Path.{_≡_, refl, sym, ap, _∙_, subst, fun-ext}
+use mathlib.Core.Path.{_≡_, refl, sym, ap, _∙_, fun-ext}
 use mathlib.Core.Logic.{_⊎_, inl, inr}
-use mathlib.Core.List.{List, [], _∷_, _++_, foldl, append-nil, append-assoc, List·Memᴰ, List·Memᴰ·head, List·Memᴰ·tail, List·Memᴰ·cases-cons, head-eq-of-cons-eq, tail-eq-of-cons-eq, nil≢cons, cons≢nil}
-use Prim.Native.Nat.{ℕ, zero, suc, _+_, _≤_, _<_, suc-le-suc}
+use mathlib.Core.List.{List, [], _∷_, _++_, List·Memᴰ, head-eq-of-cons-eq, tail-eq-of-cons-eq, nil≢cons, cons≢nil}
+use Prim.Native.Nat.{ℕ, zero, suc, _<_, suc-le-suc}
 use native.Mathlib.Omega.{arith}
-use lib.ListN.{length, getD}
-use Rattle.net.specs.Rec.{Rec, range, mask, fork, tag, end, Net, rec}
+use lib.ListN.{length}
+use Rattle.net.specs.Rec.{Net, rec}
 use Rattle.paths.specs.Ways.{Move}
 use Rattle.ground.specs.Lists.{each}
-use Rattle.paths.specs.Search.{choose, has, Thread, ons, add, firsts, paths, visit}
+use Rattle.paths.specs.Search.{Thread, ons, firsts, paths}
 use Rattle.paths.specs.Situation.{quiet, bite, follow, on-quiet, on-byte, every, close, threads}
 pub use Rattle.paths.proofs.Common.{each-append, each-each}
 use Rattle.paths.proofs.Firsts.{optimal-from}
-use Rattle.paths.proofs.Member.{mem→has, not→hasnt, mem-or-not, _⊆_, in-left, in-right, in-each, mem-ons, ons-append}
-use Rattle.paths.proofs.Closure.{by-record, Closed, Done, search-finds}
+use Rattle.paths.proofs.Member.{mem→has, not→hasnt, mem-or-not, ons-append}
+use Rattle.paths.proofs.Closure.{by-record, Done, search-finds}
 
 module _ {X : Type 0} where
   -- ---- a step whose records depend only on the record that it starts from

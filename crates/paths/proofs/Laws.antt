@@ -1,36 +1,39 @@
 -- The laws of this crate, in document 01's words; each cites its proof. Assumes nothing.
-use mathlib.Core.Path.{_≡_, refl, sym, ap, _∙_, subst}
+use mathlib.Core.Path.{_≡_, refl, sym, ap, _∙_}
 use mathlib.Core.Logic.{_⊎_, inl, inr, _↔_}
-use mathlib.Core.List.{List, [], _∷_, _++_, foldl, List·Memᴰ}
-use mathlib.Core.Option.{Option, none, some, Option·some-injective}
+use mathlib.Core.List.{List, [], _∷_, _++_, List·Memᴰ}
+use mathlib.Core.Option.{Option, none, some}
 use Prim.Native.Nat.{ℕ, suc, _+_, _≤_, _<_}
 use native.Mathlib.Omega.{arith}
 use lib.ListN.{length, getD}
-use Rattle.net.specs.Rec.{Net, rec, end}
+use Rattle.net.specs.Rec.{Net}
 use Rattle.ground.specs.Lists.{each}
-use Rattle.paths.specs.Ways.{Move, Way, eaten, Accepts, Accepted, Answer}
+use Rattle.paths.specs.Ways.{Move, Accepts, Accepted, Answer}
 use Rattle.paths.specs.Search.{Thread, firsts, paths}
 use Rattle.paths.specs.Situation.{on-quiet, close, threads, first-end, answer}
-use Rattle.paths.specs.Registers.{Tags, standing, step, begin, after, Key, held-by, index, registers, renamed, rename, number, situation, next, State, feed, run, ready, shown}
-use Rattle.paths.specs.Marks.{Marked, marked-close}
+use Rattle.paths.specs.Registers.{Tags, standing, step, Key, held-by, index, registers, renamed, situation, next, origins, State, feed, run, ready, shown}
+use Rattle.paths.specs.Marks.{marked-close}
 use Rattle.paths.specs.Meaning.{Best, Situation, trails, waiting, meant}
 use Rattle.paths.specs.Equal.{Alike}
-use Rattle.paths.specs.Limits.{Sit, Input, Numbered, Over-registers, Over-situations, first, Closes, Too-many-registers, Too-many-situations, Stops}
+use Rattle.paths.specs.Limits.{Sit, bytes, Before, Input, Numbered, Over-registers, Over-situations, first, Closes, Too-many-registers, Too-many-situations, Stops}
 use Rattle.paths.proofs.Heart as heart
-use Rattle.paths.proofs.Closure.{Done}
 use Rattle.paths.proofs.Faithful.{onto, Trail}
 use Rattle.paths.proofs.Same.{lift-end, lifts-end}
 use Rattle.paths.proofs.Answers as answers
 use Rattle.paths.proofs.Bridge.{at-place, answer-after}
 use Rattle.paths.proofs.Meant as meaning
 use Rattle.paths.proofs.Best as best
-use Rattle.paths.proofs.Numbers.{hat, Apart, register-at}
+use Rattle.paths.proofs.Numbers.{Apart, register-at}
 use Rattle.paths.proofs.Next as steps
 use Rattle.paths.proofs.Marking as marks
 use Rattle.paths.proofs.Run as runs
 use Rattle.paths.proofs.Sharing.{same-numbers}
 use Rattle.paths.proofs.Bounds.{places-eight, answer-eight, answer-within}
 use Rattle.paths.proofs.Limits as limits
+use Rattle.paths.proofs.Inputs as inputs
+use Rattle.paths.proofs.Common.{Ordered}
+use Rattle.paths.proofs.Member.{equal-or-not}
+use Rattle.paths.specs.Numbering.{upto}
 
 module _ (A : Net) where
   -- "Cutting loops loses no match: a record is accepted by an admissible path exactly if by any path"
@@ -159,6 +162,11 @@ module _ (A : Net) where
       no-end none e = refl
       no-end (some r) e = let z : _≡_ {A = ℕ} 0 1 = cc in absurd (omega arith)
 
+  -- a register of the next situation comes from an old register or from the byte's place, which is the number past these
+  pub origins-right : (w : List ℕ) (b : ℕ) → (length (origins A b (situation A w)) ≡ length (registers (next A b (situation A w))))
+      × ((o : ℕ) → List·Memᴰ o (origins A b (situation A w)) → o ≤ length (registers (situation A w)))
+  origins-right w b = (runs.origins-count A b (situation A w), runs.origins-old-or-now A b (situation A w) (runs.situation-sound A w))
+
   -- each place of an answer is of the line, and there are eight
   pub answer-places : {w : List ℕ} {a : ℕ} {τ : Tags} → Answer A w a τ → (length τ ≡ 8) × ((p : ℕ) → List·Memᴰ (some p) τ → p ≤ length w)
   answer-places d = (answer-eight d, answer-within d)
@@ -192,7 +200,7 @@ module _ (A : Net) where
         one-of-three = limits.one-of-three A;
       }
 
-  -- the numbers themselves: 0 is the empty input's; each has one situation, each situation one; every input's has one; each is an input's
+  -- the numbers themselves: 0 is the empty input's; each has one situation, each situation one; the lower has the earlier first input; every input's has one; each is an input's
   pub number-zero : Numbered A 0 (situation A [])
   number-zero = limits.numbered-zero A
 
@@ -202,8 +210,43 @@ module _ (A : Net) where
   pub number-once : {k j : ℕ} {s : Sit} → Numbered A k s → Numbered A j s → k ≡ j
   number-once x y = limits.number-once A x y
 
+  pub number-order : {k j : ℕ} {s t : Sit} → Numbered A k s → Numbered A j t → k < j → (w : List ℕ) → Input w → situation A w ≡ t
+      → (v : List ℕ) × (Input v × ((situation A v ≡ s) × Before v w))
+  number-order x y h w i e = limits.number-order A x y h w i e
+
   pub number-every : (w : List ℕ) → Input w → (k : ℕ) × Numbered A k (situation A w)
   number-every w h = limits.numbered-every A w h
 
   pub number-input : {k : ℕ} {s : Sit} → Numbered A k s → (w : List ℕ) × Input w × (situation A w ≡ s)
   number-input x = limits.numbered-input A x
+
+  -- for whoever explores: the number that is answered, 0, REGISTERS or SITUATIONS, is right in both directions
+  pub refused-exactly : (r : ℕ) → (r ≡ 0 → (n : ℕ) × Closes A n) → (r ≡ 10 → Stops A Too-many-registers) → (r ≡ 11 → Stops A Too-many-situations)
+      → ((r ≡ 0 → ⊥) → (r ≡ 10 → ⊥) → r ≡ 11)
+      → ((r ≡ 10) ↔ Over-registers A) × (((r ≡ 11) ↔ (Over-situations A × (¬ Over-registers A))) × ((r ≡ 0) ↔ ((¬ Over-registers A) × (¬ Over-situations A))))
+  refused-exactly r zero-closes ten eleven one-of = (
+    (λ e. limits.stop-registers A (ten e), λ o. is-ten o (equal-or-not r 0) (equal-or-not r 10)),
+    (
+      (λ e. limits.stop-situations A (eleven e), λ o. is-eleven o (equal-or-not r 0) (equal-or-not r 10)),
+      (λ e. let c = zero-closes e .1 in (limits.closes-registers A c, limits.closes-situations A c), λ o. is-zero o (equal-or-not r 0) (equal-or-not r 10)),
+    ),
+  )
+    where
+      is-ten : Over-registers A → (r ≡ 0) ⊎ (¬ (r ≡ 0)) → (r ≡ 10) ⊎ (¬ (r ≡ 10)) → r ≡ 10
+      is-ten o (inl e) q = absurd (limits.closes-registers A (zero-closes e .1) o)
+      is-ten o (inr e) (inl q) = q
+      is-ten o (inr e) (inr q) = absurd (limits.stop-situations A (eleven (one-of e q)) .1 o)
+
+      is-eleven : Over-situations A × (¬ Over-registers A) → (r ≡ 0) ⊎ (¬ (r ≡ 0)) → (r ≡ 10) ⊎ (¬ (r ≡ 10)) → r ≡ 11
+      is-eleven o (inl e) q = absurd (limits.closes-situations A (zero-closes e .1) (o .0))
+      is-eleven o (inr e) (inl q) = absurd (o .1 (limits.stop-registers A (ten q)))
+      is-eleven o (inr e) (inr q) = one-of e q
+
+      is-zero : (¬ Over-registers A) × (¬ Over-situations A) → (r ≡ 0) ⊎ (¬ (r ≡ 0)) → (r ≡ 10) ⊎ (¬ (r ≡ 10)) → r ≡ 0
+      is-zero o (inl e) q = e
+      is-zero o (inr e) (inl q) = absurd (o .0 (limits.stop-registers A (ten q)))
+      is-zero o (inr e) (inr q) = absurd (o .1 (limits.stop-situations A (eleven (one-of e q)) .0))
+
+-- the inputs of at most n bytes are listed "shorter first, then by byte values"
+pub inputs-ordered : (n : ℕ) → Ordered Before (upto (bytes 0 256) n)
+inputs-ordered n = inputs.inputs-ordered n

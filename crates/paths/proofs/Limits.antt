@@ -3,24 +3,25 @@
 use mathlib.Core.Path.{_≡_, refl, sym, ap, _∙_, subst}
 use mathlib.Core.Logic.{_⊎_, inl, inr}
 use mathlib.Core.Bool.{Bool, true, false}
-use mathlib.Core.List.{List, [], _∷_, _++_, map, append-nil, List·Memᴰ, List·Memᴰ·head, List·Memᴰ·tail, List·Memᴰ·append-cases, List·Memᴰ·eq-of-singleton}
+use mathlib.Core.List.{List, [], _∷_, _++_, map, append-nil, List·Memᴰ, List·Memᴰ·head, List·Memᴰ·tail, Memᴰ·append-left, Memᴰ·of-map}
 use Prim.Native.Nat.{ℕ, zero, suc, _+_, _-_, _≤_, _<_}
 use native.Mathlib.Numerals.{add-one}
 use native.Mathlib.Omega.{arith}
 use native.Mathlib.Decide.{decLe}
-use lib.ListN.{length, getD, take, drop, length-append, List·getD-append}
+use lib.ListN.{length, getD, take, length-append, List·getD-append}
 use lib.Seq.{getD-append-seam, drop-cons}
 use Rattle.net.specs.Rec.{Net}
 use Rattle.ground.specs.Lists.{each}
 use Rattle.paths.specs.Search.{choose}
 use Rattle.paths.specs.Registers.{registers, situation, next}
 use Rattle.paths.specs.Equal.{same-situation}
-use Rattle.paths.specs.Numbering.{words, upto, among, put, once, numbered, nexts, explored}
-use Rattle.paths.specs.Limits.{Sit, bytes, Input, all, Numbered, Over-registers, Over-situations, first, here, partly, Small, Closes, Too-many-registers, Too-many-situations, Stops, at-start, at-byte}
-use Rattle.paths.proofs.Common.{Prefix, ≼-trans, ≼-length, ≼-at, ≼-mem, map-≼, map-append, getD-mem, mem-getD}
-use Rattle.paths.proofs.Firsts.{Keyed, gather-append, gather-mono, put-≼, put-has, sole-at}
+use Rattle.paths.specs.Numbering.{upto, numbered, among, put, once, nexts, explored}
+use Rattle.paths.specs.Limits.{Before, Sit, bytes, Input, all, Numbered, Over-registers, Over-situations, first, here, partly, Small, Closes, Too-many-registers, Too-many-situations, Stops, at-start, at-byte}
+use Rattle.paths.proofs.Common.{mem-split, ordered-cross, Prefix, ≼-trans, ≼-length, ≼-at, map-≼, map-append, getD-mem, mem-getD}
+use Rattle.paths.proofs.Firsts.{put-≼, gather-≼, gather-in, Keyed, gather-append, gather-mono, put-has, sole-at}
 use Rattle.paths.proofs.Next.{situation-next}
-use Rattle.paths.proofs.Exploring.{by-state, numbered-≼, numbered-has, numbered-of, numbered-sole, explored-≼, explored-next}
+use Rattle.paths.proofs.Exploring.{upto-has, upto-of, by-state, numbered-≼, numbered-has, numbered-of, numbered-sole, explored-≼, explored-next}
+use Rattle.paths.proofs.Inputs.{inputs-ordered}
 use Rattle.paths.proofs.Builder.{situation-test, found-first, found-all}
 
 -- ---- bytes
@@ -288,3 +289,51 @@ module _ (A : Net) where
       by : Dec (length (first A 96) ≤ 96) → (k < length (all A 96)) × (getD (all A 96) k [] ≡ s)
       by (yes d) = from (closed-numbered 96 d x)
       by (no d) = let i : k < length (first A 96) = omega arith in from (i, numbered-one (first-numbered 96 k i) x)
+
+  -- ---- the lower number has the earlier first input
+
+  module _ (w : List ℕ) (pre post : List (List ℕ)) (split : upto (bytes 0 256) (length w) ≡ pre ++ w ∷ post) where
+    -- the situations of the inputs before w
+    before-w : List Sit
+    before-w = once same-situation [] (map (situation A) pre)
+
+    up-to-w : Prefix (put same-situation before-w (situation A w)) (all A (length w))
+    unfolding numbered before-w
+    up-to-w =
+        subst (λ l. Prefix (put same-situation before-w (situation A w)) l)
+        (sym
+        (ap (λ l. once same-situation [] (map (situation A) l)) split
+        ∙ ap (λ l. once same-situation [] l) (map-append (situation A) pre (w ∷ post))
+        ∙ gather-append by-situation [] (map (situation A) pre) (situation A w ∷ map (situation A) post)))
+        (gather-≼ by-situation (map (situation A) post) (put same-situation before-w (situation A w)))
+
+    -- a situation with a lower number than that of w is one of these
+    lower-before : {k j : ℕ} {s : Sit} → Numbered A k s → Numbered A j (situation A w) → k < j → List·Memᴰ s before-w
+    lower-before {k} {j} {s} x y h =
+        let r = mem-getD [] (put-has by-situation before-w (situation A w)) in
+        let e = number-once (subst (λ t. Numbered A (r .0) t) (r .1 .1) (numbered-from (length w) up-to-w (r .0) (r .1 .0))) y in
+        let i : k < length before-w = omega (arith, r .1 .0, put-length before-w (situation A w)) in
+        subst (λ z. List·Memᴰ z before-w) (numbered-one (numbered-from (length w) (≼-trans (put-≼ by-situation before-w (situation A w)) up-to-w) k i) x) (getD-mem before-w k [] i)
+
+    input-before : {s : Sit} → List·Memᴰ s before-w → (v : List ℕ) × (Input v × ((situation A v ≡ s) × Before v w))
+    unfolding before-w
+    input-before {s} m = of (gather-in by-situation (map (situation A) pre) [] m)
+      where
+        of : List·Memᴰ s [] ⊎ List·Memᴰ s (map (situation A) pre) → (v : List ℕ) × (Input v × ((situation A v ≡ s) × Before v w))
+        of (inl n) = absurd (elim n [ ])
+        of (inr n) =
+            let c = Memᴰ·of-map (situation A) pre n in
+            let i : List·Memᴰ (c .0) (upto (bytes 0 256) (length w)) = rw split (Memᴰ·append-left (w ∷ post) (c .1)) in (
+              c .0,
+              (
+                (λ b k. bytes-below 0 256 (upto-of same-situation situation-test (bytes 0 256) (next A) (situation A) (situation-next A) (length w) i b k)),
+                (c .2, ordered-cross Before pre (w ∷ post) (rw split at (inputs-ordered (length w))) (c .0) w (c .1) (List·Memᴰ·head refl)),
+              ),
+            )
+
+  -- "numbered by the first input that reaches them": of two numbers, the lower one's situation is reached by an input before each that reaches the other's
+  pub number-order : {k j : ℕ} {s t : Sit} → Numbered A k s → Numbered A j t → k < j → (w : List ℕ) → Input w → situation A w ≡ t
+      → (v : List ℕ) × (Input v × ((situation A v ≡ s) × Before v w))
+  number-order {k} {j} {s} {t} x y h w i e =
+      let r = mem-split (upto-has same-situation situation-test (bytes 0 256) (next A) (situation A) (situation-next A) w (in-bytes i)) in
+      input-before w (r .0) (r .1 .0) (r .1 .1) (lower-before w (r .0) (r .1 .0) (r .1 .1) x (subst (λ z. Numbered A j z) (sym e) y) h)

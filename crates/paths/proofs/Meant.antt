@@ -2,20 +2,18 @@
 use mathlib.Core.Path.{_≡_, refl, sym, ap, _∙_, subst}
 use mathlib.Core.Logic.{_⊎_, inl, inr}
 use mathlib.Core.Bool.{Bool, true, false, cond}
-use mathlib.Core.List.{List, [], _∷_, _++_, append-nil, append-assoc, List·Memᴰ, List·Memᴰ·head, List·Memᴰ·tail, List·Memᴰ·cases-cons, List·Memᴰ·append-cases, List·Memᴰ·eq-of-singleton, Memᴰ·append-left, Memᴰ·append-right, Memᴰ·cast}
-use Prim.Native.Nat.{ℕ, zero, suc}
+use mathlib.Core.List.{List, [], _∷_, append-nil, List·Memᴰ, List·Memᴰ·head, List·Memᴰ·tail, List·Memᴰ·cases-cons}
+use Prim.Native.Nat.{ℕ}
 use native.Mathlib.Omega.{arith}
-use lib.Seq.{append-snoc}
 use lib.ListN.{length}
 use Rattle.net.specs.Rec.{Rec, range, mask, fork, tag, end, Net, rec}
-use Rattle.paths.specs.Ways.{Move, Way, eaten, Admissible, Earlier, empty-handed, held}
-use Rattle.ground.specs.Lists.{each}
-use Rattle.paths.specs.Search.{Thread, ons, add, firsts}
+use Rattle.paths.specs.Ways.{Move, Earlier, empty-handed, held}
+use Rattle.paths.specs.Search.{Thread, ons, firsts}
 use Rattle.paths.specs.Situation.{every, threads}
 use Rattle.paths.specs.Registers.{Tags, stands, standing, begin, after, number, situation}
 use Rattle.paths.specs.Meaning.{Stands, Sorted, Once, Situation, trails, with-tags, waiting, meant}
 use Rattle.paths.proofs.Firsts.{Sole, gather-sole, gather-ordered, gather-first}
-use Rattle.paths.proofs.Member.{mem-or-not, mem-ons, ons-mem, ons-append, in-left, in-right}
+use Rattle.paths.proofs.Member.{mem-ons, ons-mem}
 use Rattle.paths.proofs.Closure.{by-record, firsts-in, firsts-has}
 use Rattle.paths.proofs.Heart.{heart}
 use Rattle.paths.proofs.Faithful.{onto, Trail, Reached, every-sound}

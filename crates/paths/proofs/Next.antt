@@ -1,15 +1,15 @@
 -- The next situation follows from the last one and the byte alone. Assumes nothing.
-use mathlib.Core.Path.{_≡_, refl, sym, ap, ap₂, _∙_, subst}
+use mathlib.Core.Path.{_≡_, refl, sym, ap, ap₂, _∙_}
 use mathlib.Core.Logic.{_⊎_, inl, inr}
-use mathlib.Core.Bool.{Bool, true, false, _&&_, cond}
-use mathlib.Core.List.{List, [], _∷_, _++_, map, foldl, foldl-append, List·Memᴰ, List·Memᴰ·head, List·Memᴰ·tail, List·Memᴰ·cases-cons, List·Memᴰ·append-cases, Memᴰ·append-left, Memᴰ·append-right, Memᴰ·cast, Memᴰ·of-map}
-use mathlib.Core.Option.{Option, none, some}
-use Prim.Native.Nat.{ℕ, zero, suc, _+_, _≤_, _<_}
+use mathlib.Core.Bool.{Bool, true, false, cond}
+use mathlib.Core.List.{List, [], _∷_, _++_, foldl, foldl-append, List·Memᴰ, List·Memᴰ·head, List·Memᴰ·tail, List·Memᴰ·cases-cons, List·Memᴰ·append-cases, Memᴰ·of-map}
+use mathlib.Core.Option.{none, some}
+use Prim.Native.Nat.{ℕ, zero, suc, _≤_, _<_}
 use native.Mathlib.Nat.{lt-irrefl}
 use native.Mathlib.Omega.{arith}
-use lib.Dec.{T, ltb, ltb→lt, lt→ltb}
+use lib.Dec.{ltb, ltb→lt, lt→ltb}
 use lib.ListN.{length, getD, set, length-map}
-use Rattle.net.specs.Rec.{Rec, Net, rec}
+use Rattle.net.specs.Rec.{Net, rec}
 use Rattle.paths.specs.Ways.{Turn, first, second, mark, Move, eat, turn}
 use Rattle.ground.specs.Lists.{each}
 use Rattle.paths.specs.Search.{choose, has, Thread, ons, visit}
@@ -17,7 +17,7 @@ use Rattle.paths.specs.Situation.{quiet, bite, follow, on-quiet, on-byte
 use Rattle.paths.specs.Registers.{Tags, no-tags, tagged, stands, standing, step, begin, after, Key, holds, held-by, index, registers, renamed, rename, number, situation, next}
 use Rattle.paths.proofs.Member.{Bool-cases, T-of, of-T}
 use Rattle.paths.proofs.Faithful.{each-cases, each-has, follow-cases}
-use Rattle.paths.proofs.Same.{lift, lifts, lifts-close, lifts-byte}
+use Rattle.paths.proofs.Same.{lifts, lifts-close, lifts-byte}
 use Rattle.paths.proofs.Numbers.{hat, Apart, held-renamed, registers-hat, rename-rename, rename-same, rename-self, number-rename, register-at}
 
 -- ---- a property of what threads hold, kept by each move, is kept by the search

@@ -1,14 +1,13 @@
 -- Register numbers: other numbers for the places, each tag's apart, give the same situation. Assumes nothing.
-use mathlib.Core.Path.{_≡_, refl, sym, ap, ap₂, _∙_, subst}
+use mathlib.Core.Path.{_≡_, refl, sym, ap, ap₂, _∙_}
 use mathlib.Core.Logic.{_⊎_, inl, inr}
 use mathlib.Core.Bool.{Bool, true, false, _&&_, cond}
-use mathlib.Core.List.{List, [], _∷_, _++_, map, foldl, List·Memᴰ, List·Memᴰ·head, List·Memᴰ·tail, List·Memᴰ·cases-cons, List·Memᴰ·append-cases, Memᴰ·append-left, Memᴰ·append-right, Memᴰ·cast, Memᴰ·map, Memᴰ·of-map}
-use mathlib.Core.Option.{Option, none, some}
-use Prim.Native.Nat.{ℕ, zero, suc, _+_, _≤_, _<_}
+use mathlib.Core.List.{List, [], _∷_, _++_, map, foldl, List·Memᴰ, List·Memᴰ·head, List·Memᴰ·tail, List·Memᴰ·cases-cons, Memᴰ·append-left, Memᴰ·append-right, Memᴰ·cast}
+use mathlib.Core.Option.{none, some}
+use Prim.Native.Nat.{ℕ, suc, _<_}
 use native.Mathlib.Omega.{arith}
-use lib.Dec.{T, eqb, eqb→eq, eqb-refl}
+use lib.Dec.{eqb, eqb→eq, eqb-refl}
 use lib.ListN.{length, getD}
-use Rattle.ground.specs.Lists.{each}
 use Rattle.paths.specs.Search.{Thread}
 use Rattle.paths.specs.Registers.{Tags, Key, is, holds, held-by, index, known, note, registers, renamed, rename, number}
 use Rattle.paths.proofs.Common.{map-append}

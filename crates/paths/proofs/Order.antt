@@ -1,17 +1,17 @@
 -- `every` lists the earlier path first. Assumes nothing.
-use mathlib.Core.Path.{_≡_, refl, sym, ap, _∙_, subst}
+use mathlib.Core.Path.{_≡_, refl, ap, _∙_}
 use mathlib.Core.Logic.{_⊎_, inl, inr}
 use mathlib.Core.Bool.{Bool, true, false, _&&_, cond}
-use mathlib.Core.List.{List, [], _∷_, _++_, append-nil, append-assoc, List·Memᴰ, List·Memᴰ·head, List·Memᴰ·tail, List·Memᴰ·cases-cons, List·Memᴰ·append-cases, List·Memᴰ·eq-of-singleton}
+use mathlib.Core.List.{List, [], _∷_, _++_, append-assoc, List·Memᴰ, List·Memᴰ·eq-of-singleton}
 use Prim.Native.Nat.{ℕ, zero, suc}
 use native.Mathlib.Omega.{arith}
 use lib.Dec.{leb, eqb}
 use lib.ListN.{length}
 use lib.Seq.{append-snoc}
 use Rattle.net.specs.Rec.{Rec, range, mask, fork, tag, end, Net, rec, bit}
-use Rattle.paths.specs.Ways.{Turn, first, second, mark, Move, eat, turn, Step, by-range, by-mask, by-first, by-second, by-tag, Way, stay, go, eaten, Admissible, Earlier, parts, later}
+use Rattle.paths.specs.Ways.{Turn, first, second, Move, eat, turn, Step, by-range, by-mask, by-first, by-second, by-tag, Way, stay, go, Earlier, parts, later}
 use Rattle.ground.specs.Lists.{each}
-use Rattle.paths.specs.Search.{Thread, ons, paths}
+use Rattle.paths.specs.Search.{paths}
 use Rattle.paths.specs.Situation.{quiet, bite, follow, on-quiet, on-byte, every}
 pub use Rattle.paths.proofs.Common.{Ordered}
 use Rattle.paths.proofs.Common.{ordered-each}

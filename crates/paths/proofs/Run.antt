@@ -1,22 +1,22 @@
 -- A run over registers shows, after any input, the places of the builder's list. Assumes nothing.
 use mathlib.Core.Path.{_≡_, refl, sym, ap, _∙_}
 use mathlib.Core.Logic.{_⊎_, inl, inr}
-use mathlib.Core.Bool.{Bool, true, false, cond}
-use mathlib.Core.List.{List, [], _∷_, _++_, map, foldl, List·Memᴰ}
-use Prim.Native.Nat.{ℕ, zero, suc, _+_, _<_}
+use mathlib.Core.Bool.{true, false}
+use mathlib.Core.List.{List, [], _∷_, _++_, map, foldl, List·Memᴰ, Memᴰ·of-map}
+use Prim.Native.Nat.{ℕ, zero, suc, _+_, _≤_, _<_}
 use native.Mathlib.Nat.{lt-irrefl, le-of-suc-le-suc, not-suc-le-zero}
 use native.Mathlib.Omega.{arith}
-use lib.Dec.{T, ltb, ltb→lt, lt→ltb}
+use lib.Dec.{ltb, ltb→lt, lt→ltb}
 use lib.ListN.{length, getD, length-map}
 use Rattle.net.specs.Rec.{Net}
 use Rattle.paths.specs.Search.{Thread}
-use Rattle.paths.specs.Registers.{Tags, Key, held-by, index, registers, rename, number, step, begin, after, situation, next, origins, fetch, moved, State, feed, run, ready, shown}
+use Rattle.paths.specs.Registers.{Tags, Key, held-by, index, registers, rename, number, step, begin, after, situation, next, origins, fetch, State, feed, run, ready, shown}
 use Rattle.paths.proofs.Member.{Bool-cases, T-of, of-T}
-use Rattle.paths.proofs.Numbers.{rename-rename, rename-same, rename-self, register-at}
+use Rattle.paths.proofs.Numbers.{registers-held, rename-rename, rename-same, rename-self, register-at}
 use Rattle.paths.specs.Situation.{first-end, answer}
 use Rattle.paths.proofs.Same.{lift-end}
 use Rattle.paths.proofs.Bridge.{at-place, answer-after}
-use Rattle.paths.proofs.Next.{step-rename, number-below, as-many-registers, situations}
+use Rattle.paths.proofs.Next.{held-step, step-rename, number-below, as-many-registers, situations}
 
 getD-map-lt : {A B : Type 0} (f : A → B) (l : List A) (i : ℕ) (d : A) (e : B) → i < length l → getD (map f l) i e ≡ f (getD l i d)
 getD-map-lt f [] i d e h = absurd (not-suc-le-zero h)
@@ -140,3 +140,25 @@ run-in-count A w = run-fitting A 0 (ready A) w (ready-fitting A) .sound
 
 pub run-bank : (A : Net) (w : List ℕ) → length (run A 0 (ready A) w .bank) ≡ length (registers (situation A w))
 run-bank A w = run-fitting A 0 (ready A) w (ready-fitting A) .full ∙ ap (λ s. length (registers s)) (run-situation A w)
+
+-- ---- where each register of the next situation comes from: an old register, or the byte's place
+
+pub situation-sound : (A : Net) (w : List ℕ) (k : Key) → List·Memᴰ k (held-by (situation A w)) → k .1 < length (registers (situation A w))
+unfolding situation
+situation-sound A w = sound-number (after A 0 (begin A) w)
+
+origin-cases : (R : ℕ) (k : Key) (l : List (Thread Tags)) → ((k : Key) → List·Memᴰ k (held-by l) → k .1 < R) → (k .1 ≡ R) ⊎ List·Memᴰ k (held-by l) → k .1 ≤ R
+origin-cases R k l h (inl e) = omega arith
+origin-cases R k l h (inr m) = omega (arith, h k m)
+
+pub origins-old-or-now : (A : Net) (b : ℕ) (l : List (Thread Tags)) → ((k : Key) → List·Memᴰ k (held-by l) → k .1 < length (registers l))
+    → (o : ℕ) → List·Memᴰ o (origins A b l) → o ≤ length (registers l)
+unfolding origins
+origins-old-or-now A b l h o m =
+    let c = Memᴰ·of-map (λ k. k .1) (registers (step A (length (registers l)) b l)) m in
+    let q = origin-cases (length (registers l)) (c .0) l h (held-step A (length (registers l)) b l (c .0) (registers-held (step A (length (registers l)) b l) (c .1))) in
+    omega (arith, c .2)
+
+pub origins-count : (A : Net) (b : ℕ) (l : List (Thread Tags)) → length (origins A b l) ≡ length (registers (next A b l))
+unfolding origins next
+origins-count A b l = length-map (registers (step A (length (registers l)) b l)) (λ k. k .1) ∙ sym (as-many-registers (step A (length (registers l)) b l))

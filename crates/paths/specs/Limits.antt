@@ -23,6 +23,15 @@ bytes k (suc n) = k ∷ bytes (k + 1) n
 abbrev pub Input : List ℕ → Type 0
 Input w = (b : ℕ) → List·Memᴰ b w → b < 256
 
+-- "shorter first, then by byte values": the order of inputs. `Numbering.upto` lists them so (`Laws.inputs-ordered`).
+pub data By-values : List ℕ → List ℕ → Type 0 where
+  lower : {b c : ℕ} {v w : List ℕ} → b < c → By-values (b ∷ v) (c ∷ w)
+  same : {b : ℕ} {v w : List ℕ} → By-values v w → By-values (b ∷ v) (b ∷ w)
+
+pub data Before (v w : List ℕ) : Type 0 where
+  shorter : length v < length w → Before v w
+  by-values : length v ≡ length w → By-values v w → Before v w
+
 -- ---- the numbering, over inputs
 
 -- the situations that inputs of at most n bytes reach, each where it first appears: shorter inputs first, then by byte values

@@ -1,8 +1,10 @@
 -- `field` meets its contract: a part lies in the line, and a refused one is the empty part at its start. Assumes nothing.
-use mathlib.Core.Path.{_≡_, refl, sym, _∙_}
+use Prim.Native.Nat.{ℕ}
+use native.Mathlib.Nat.{zero-add}
+use mathlib.Core.Path.{_≡_, refl, sym, ap, _∙_}
 use borrow.Author.Needs.{needs}
 use lib.ListN.{length}
-use denote.Ref.{now}
+use denote.Ref.{now, ptr}
 use Rattle.ground.specs.Place.{placeOf}
 use Rattle.field.specs.Field.{cutOf}
 use Rattle.field.specs.declared.Cut.the-variants.{Part}
@@ -28,7 +30,7 @@ returns c =
     handed-none (b .before .before .args .line) _
     (sym (cut-passed _ _ _ (b .before .before .fits .from) (b .before .before .fits .to) (b .between .ensures)) ∙ c .before .enum-told .given .1)
     refl
-    refl
+    (ap (λ (o : ℕ). (ptr (b .before .before .args .line) .0, o)) (sym (zero-add (ptr (b .before .before .args .line) .1))))
 
 -- what is known of the two places where there is a part
 cut-at : (c : tie.After-known-told)

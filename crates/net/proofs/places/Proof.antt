@@ -33,14 +33,14 @@ none-requires c κs = search needs
 returns : tie.Need-returns Inv-loop μ-loop
 returns c =
     let told = c .before .before .enum-told .given in
-    let b = head-bad _ _ (sym (c .before .before .before .before .read-head .ensures) ∙ told .1) in
+    let b = head-bad _ _ _ (c .before .before .before .before .read-head .ensures) (told .1) in
     laid-none _ (b .0) _ (c .before .head-refusal .ensures ∙ ap head-refusal-of (told .1) ∙ b .2) (code-bad _ _ (b .1)) _ (c .none .ensures)
 
 cast-n : tie.Need-cast-n Inv-loop μ-loop
 cast-n c = search needs
 
 loop-holds : tie.Need-loop-holds Inv-loop μ-loop
-loop-holds c = fill-begins _ _ _ (head-counts _ _ _ (sym (c .before .before .before .read-head .ensures) ∙ c .before .h .given .1))
+loop-holds c = fill-begins _ _ _ (head-counts _ _ _ _ (c .before .before .before .read-head .ensures) (c .before .h .given .1))
 
 mul-found : tie.Need-mul-found Inv-loop μ-loop
 mul-found c = let f = c .before .loop .inv in omega (arith, f .few)
@@ -66,7 +66,7 @@ none-requires-2 c κs = search needs
 returns-2 : tie.Need-returns-2 Inv-loop μ-loop
 returns-2 c =
     let told = c .before .before .enum-told2 .given in
-    let b = shown-stop _ _ _ (sym (c .before .before .before .before .next-item .ensures) ∙ told .1) in
+    let b = shown-stop _ _ _ _ (c .before .before .before .before .next-item .ensures) (told .1) in
     laid-none _ (b .0) _ (c .before .refusal .ensures ∙ ap refusal-of (told .1) ∙ b .2) (fill-stop _ _ _ _ _ _ _ (c .before .before .before .before .before .before .loop .inv) (c .before .before .before .before .before .loop-test .taken) _ (b .1)) _ (c .none2 .ensures)
 
 add-i : tie.Need-add-i Inv-loop μ-loop
@@ -77,7 +77,7 @@ loop-less c = omega arith
 
 loop-again : tie.Need-loop-again Inv-loop μ-loop
 loop-again c =
-    let g = shown-got _ _ _ _ (sym (c .before .before .before .next-item .ensures) ∙ c .before .r .given .1) in
+    let g = shown-got _ _ _ _ _ (c .before .before .before .next-item .ensures) (c .before .r .given .1) in
     fill-on _ _ _ _ _ _ _ (c .before .before .before .before .before .loop .inv) (c .before .before .before .before .loop-test .taken) _ _ (g .1)
 
 none-requires-3 : tie.Need-none-requires-3 Inv-loop μ-loop

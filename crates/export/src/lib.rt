@@ -1,0 +1,58 @@
+// The calls under C names, for tests, benchmarks and firmware: numbers and byte slices only.
+ghost use mathlib.Core.Path.{_≡_};
+ghost use lib.ListN.{length};
+ghost use Rattle.ground.specs.Place.{placeOf};
+ghost use Rattle.field.specs.Field.{cutOf, codeOf, bytesOf};
+ghost use Rattle.net.specs.Count.{byteCount};
+ghost use Rattle.reading.specs.Reading.{cutBy};
+ghost use Rattle.export.specs.Copied.{Copies};
+
+// The number of the field call on these values.
+#[no_mangle]
+pub extern "C" fn cv_field_code(line: &[u8], from: i16, to: i16) -> u8
+    ensures { λ r. ⌜ r ≡ codeOf (cutOf (length (now (line .entry))) (placeOf from) (placeOf to)) ⌝ }
+{
+    field::field_code(line, from, to)
+}
+
+// The field call's part, copied to the front of `out` if it has room; the part's length.
+#[no_mangle]
+pub extern "C" fn cv_field(line: &[u8], from: i16, to: i16, out: &mut [u8]) -> usize
+    ensures { λ r. ⌜ Copies (bytesOf (cutOf (length (now (line .entry))) (placeOf from) (placeOf to)) (now (line .entry))) (now (out .entry)) (now (out .exit)) r ⌝ }
+{
+    let part = field::field(line, from, to);
+    if part.len() <= out.len() {
+        return bytes::copy(part, out);
+    }
+    part.len()
+}
+
+// How many of the 256 bytes a record takes: the code, and the count beside it.
+#[no_mangle]
+pub extern "C" fn cv_count(net: &[u8], index: usize, count: &mut u32) -> u8
+    ensures { λ r. ⌜ (r ≡ byteCount (now (net .entry)) index .code) × (now (count .exit) ≡ byteCount (now (net .entry)) index .count) ⌝ }
+{
+    let c = net::byte_count(net, index);
+    *count = c.count;
+    c.code
+}
+
+// The number of a reading's part between two tags.
+#[no_mangle]
+pub extern "C" fn cv_reading_code(line: &[u8], places: &[i16; 8], a: u8, b: u8) -> u8
+    ensures { λ r. ⌜ r ≡ codeOf (cutBy (now (line .entry)) (now (places .entry)) a b) ⌝ }
+{
+    reading::code_of(line, *places, a, b)
+}
+
+// A reading's part between two tags, copied as the field call's is.
+#[no_mangle]
+pub extern "C" fn cv_reading(line: &[u8], places: &[i16; 8], a: u8, b: u8, out: &mut [u8]) -> usize
+    ensures { λ r. ⌜ Copies (bytesOf (cutBy (now (line .entry)) (now (places .entry)) a b) (now (line .entry))) (now (out .entry)) (now (out .exit)) r ⌝ }
+{
+    let part = reading::part_of(line, *places, a, b);
+    if part.len() <= out.len() {
+        return bytes::copy(part, out);
+    }
+    part.len()
+}

@@ -1,0 +1,11 @@
+pub mod Bits
+pub mod Totals
+pub mod Stuck
+pub mod Passes
+pub mod Sets
+pub mod Shape
+pub mod Verdict
+pub mod Listing
+pub mod Walk
+pub mod Flowing
+pub mod Situated

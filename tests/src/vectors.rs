@@ -1,0 +1,73 @@
+//! The vector files: each case replayed through the calls.
+
+use crate::calls;
+use crate::text::{bytes, is};
+use std::fs;
+use std::path::{Path, PathBuf};
+
+/// The folder with the large set if it is there, else the small set that is kept beside the tests.
+pub fn folder() -> PathBuf {
+    let here = Path::new(env!("CARGO_MANIFEST_DIR"));
+    let large = here.join("../../shared/vectors");
+    if large.is_dir() { large } else { here.join("vectors") }
+}
+
+/// Every line of the files whose first word is `kind`.
+pub fn cases(kind: &str) -> Vec<String> {
+    let mut files: Vec<PathBuf> =
+        fs::read_dir(folder()).expect("vectors").map(|e| e.expect("entry").path()).collect();
+    files.sort();
+    let mut cases = Vec::new();
+    for file in files.iter().filter(|f| f.extension().is_some_and(|e| e == "txt")) {
+        let text = fs::read_to_string(file).expect("vectors are text");
+        let head = format!("{kind} ");
+        cases.extend(text.lines().filter(|l| l.starts_with(&head)).map(str::to_string));
+    }
+    cases
+}
+
+/// What is wrong with a case, or `None` where the calls agree with it.
+pub fn fault(case: &str) -> Option<String> {
+    let w: Vec<&str> = case.split(' ').filter(|x| !x.is_empty()).collect();
+    let told = match w[0] {
+        "C" => count(&w),
+        "F" => field(&w),
+        "G" => reading(&w),
+        _ => Err("no such kind".to_string()),
+    };
+    match told {
+        Ok(()) => None,
+        Err(why) => Some(format!("{case}\n  {why}")),
+    }
+}
+
+type Fits = Result<(), String>;
+
+fn number<T: std::str::FromStr>(word: &str) -> T {
+    word.parse().unwrap_or_else(|_| panic!("no number: {word}"))
+}
+
+fn raw(word: &str) -> Vec<u8> {
+    bytes(word).unwrap_or_else(|| panic!("no bytes: {word}"))
+}
+
+fn same<T: PartialEq + std::fmt::Debug>(got: T, want: T) -> Fits {
+    if got == want { Ok(()) } else { Err(format!("got {got:?}, want {want:?}")) }
+}
+
+fn count(w: &[&str]) -> Fits {
+    same(calls::count(&raw(w[1]), number(w[2])), (number(w[3]), number(w[4])))
+}
+
+fn reading(w: &[&str]) -> Fits {
+    let places: [i16; 8] = std::array::from_fn(|i| number(w[2 + i]));
+    let (code, part) = calls::reading(&raw(w[1]), &places, number(w[10]), number(w[11]))?;
+    same(code, number(w[12]))?;
+    if is(w[13], &part) { Ok(()) } else { Err("another part".to_string()) }
+}
+
+fn field(w: &[&str]) -> Fits {
+    let (code, part) = calls::field(&raw(w[1]), number(w[2]), number(w[3]))?;
+    same(code, number(w[4]))?;
+    if is(w[5], &part) { Ok(()) } else { Err("another part".to_string()) }
+}
