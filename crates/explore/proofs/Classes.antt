@@ -13,7 +13,7 @@ use Rattle.paths.specs.Ways.{Move, eat}
 use Rattle.paths.specs.Search.{Thread}
 use Rattle.ground.specs.Lists.{each}
 use Rattle.paths.specs.Situation.{bite, follow, on-byte, close}
-use Rattle.paths.specs.Registers.{Tags, tagged, registers, standing, step, number, next}
+use Rattle.paths.specs.Registers.{Tags, tagged, registers, standing, step, number, next, origins}
 use Rattle.paths.specs.Equal.{same-situation}
 use Rattle.paths.specs.Numbering.{among, put, once}
 use Rattle.paths.proofs.Member.{Bool-cases}
@@ -49,9 +49,13 @@ module _ {F offs : List ℕ} (w : Formed F offs) (b c : ℕ) (same : (r : ℕ) �
   each-same (s ∷ l) h = let p = byte-same s (h .0) in let q = each-same l (h .1) in λ i. p i ++ q i
 
 module _ {F offs : List ℕ} (w : Formed F offs) (b : ℕ) (a : Alike (net F offs) (length offs) b) (l : Sit) (h : Below (length offs) l) where
-  next-alike : next (net F offs) b l ≡ next (net F offs) (b - 1) l
+  pub next-alike : next (net F offs) b l ≡ next (net F offs) (b - 1) l
   unfolding next step
   next-alike = ap (λ v. number (standing (net F offs) (close (tagged (length (registers l))) (net F offs) v))) (each-same w b (b - 1) (a .same) (length (registers l)) l h)
+
+  pub origins-alike : origins (net F offs) b l ≡ origins (net F offs) (b - 1) l
+  unfolding origins step
+  origins-alike = ap (λ v. map (λ k. k .1) (registers (standing (net F offs) (close (tagged (length (registers l))) (net F offs) v)))) (each-same w b (b - 1) (a .same) (length (registers l)) l h)
 
   pub skipped : (found : List Sit) → once same-situation found (map (λ b. next (net F offs) b l) (span 0 (b + 1))) ≡ once same-situation found (map (λ b. next (net F offs) b l) (span 0 b))
   skipped found =

@@ -122,9 +122,12 @@ module _ (A : Net) (N : ℕ) (w : List ℕ) (count : ℕ) (l : Sit) (b : ℕ) (k
           size = refl;
           fine = λ e. absurd (omega arith);
           regs = λ e. absurd (omega arith);
-          sits = λ _. record { most = omega (arith, slots-length w 0 count, k .most); new = missing j p c; needs = omega (arith, step .is .few o, step .is .count o) };
+          sits = λ _. record { most = omega (arith, slots-length w 0 count, k .most); new = missing j p c; needs = omega (arith, step .is .few o, step .is .count o); few = λ j d. by j (omega arith) };
           one-of = λ p q. refl;
         }
+      where
+        by : (j : ℕ) → j < count → length (registers (getD (slots w 0 count) j [])) ≤ 64
+        by j d = let z : 0 + j ≡ j = omega arith in rw (slots-at w 0 count j [] d ∙ ap (slot w) z) (k .holds j d .small)
 
     pub tried-new : (j : ℕ) → Placed w count (threads-of (t .sit)) j → count ≤ j → count < 96 → (w′ : List ℕ) → Stored w w′ count (threads-of (t .sit)) (t .regs .n) → Tries A N w w′ count l b (record { answer = 0; count = count + 1 })
     tried-new j p c f w′ s =

@@ -40,6 +40,10 @@ module _ (f : List ℕ) (at : ℕ) where
       by false true x y z n w bits = refl
       by false false x y z n w bits = refl
 
+pub at-end : (f : List ℕ) (at : ℕ) → (getD f at 0 ≡ 17 → ⊥) → (getD f at 0 ≡ 18 → ⊥) → (getD f at 0 ≡ 19 → ⊥) → (getD f at 0 ≡ 20 → ⊥) → rec-at f at ≡ end (getD f (at + 1) 0)
+unfolding rec-at
+at-end f at a b c d = rw (ne-eqb (getD f at 0) 17 a, ne-eqb (getD f at 0) 18 b, ne-eqb (getD f at 0) 19 c, ne-eqb (getD f at 0) 20 d)
+
 pub rec-net : (f offs : List ℕ) (r : ℕ) → r < length offs → rec (net f offs) r ≡ rec-at f (getD offs r 0)
 unfolding net
 rec-net f offs r h = getD-map (rec-at f) offs r 0 (mask [] 0) h

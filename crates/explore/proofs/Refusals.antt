@@ -33,13 +33,13 @@ pub record Situations-refused (A : Net) : Type 0 where
   pub n : ℕ
   pub many : 96 < length (all A n)
 
-abbrev Grows : List Sit → List Sit → Type 0
+abbrev pub Grows : List Sit → List Sit → Type 0
 Grows l k = Prefix l k
 
 grows-self : (l : List Sit) → Grows l l
 grows-self l = record { more = []; whole = append-nil l }
 
-grows-on : {l k m : List Sit} → Grows l k → Grows k m → Grows l m
+pub grows-on : {l k m : List Sit} → Grows l k → Grows k m → Grows l m
 grows-on {l} p q = record { more = p .more ++ q .more; whole = sym (append-assoc l (p .more) (q .more)) ∙ ap (λ v. v ++ q .more) (p .whole) ∙ q .whole }
 
 grows-put : (l : List Sit) (s : Sit) → Grows l (put same-situation l s)
@@ -62,7 +62,7 @@ grows-span f l b (suc m) =
     (subst (λ v. Grows (once same-situation l (map f (span 0 (b + m)))) (once same-situation l (map f (span 0 v)))) e
     (rw (once-snoc l f (b + m)) (grows-put (once same-situation l (map f (span 0 (b + m)))) (f (b + m)))))
 
-found-at : (s : Sit) (l : List Sit) → among same-situation s l ≡ true → (k : ℕ) × ((k < length l) × (getD l k [] ≡ s))
+pub found-at : (s : Sit) (l : List Sit) → among same-situation s l ≡ true → (k : ℕ) × ((k < length l) × (getD l k [] ≡ s))
 found-at s [] e = absurd (let z : _≡_ {A = ℕ} 0 1 = cc in omega arith)
 found-at s (t ∷ l) e = by (found-at s l) (Bool-cases (same-situation s t)) e
   where
@@ -70,7 +70,7 @@ found-at s (t ∷ l) e = by (found-at s l) (Bool-cases (same-situation s t)) e
     by ih (inl p) q = (0, (omega arith, sym (situation-test s t .0 p)))
     by ih (inr p) q = let r = ih (rw p at q) in (suc (r .0), (omega (arith, r .1 .0), r .1 .1))
 
-put-at : (s : Sit) (l : List Sit) → (k : ℕ) × ((k ≤ length l) × ((k < length (put same-situation l s)) × (getD (put same-situation l s) k [] ≡ s)))
+pub put-at : (s : Sit) (l : List Sit) → (k : ℕ) × ((k ≤ length l) × ((k < length (put same-situation l s)) × (getD (put same-situation l s) k [] ≡ s)))
 put-at s l = by (Bool-cases (among same-situation s l))
   where
     by : (among same-situation s l ≡ true) ⊎ (among same-situation s l ≡ false) → (k : ℕ) × ((k ≤ length l) × ((k < length (put same-situation l s)) × (getD (put same-situation l s) k [] ≡ s)))
@@ -83,7 +83,7 @@ first-none A = refl
 
 -- the state that a byte leads to stands in document 01's list
 module _ (A : Net) (i b : ℕ) (in-it : i < length (first A i)) (c : b < 256) where
-  reaches : Grows (put same-situation (partly A i b) (next A b (here A i))) (all A (i + 1))
+  pub reaches : Grows (put same-situation (partly A i b) (next A b (here A i))) (all A (i + 1))
   reaches =
       let e : b + 1 + (255 - b) ≡ 256 = omega arith in
       let p = found-first A (span 0 256) (i + 1) in
@@ -93,10 +93,10 @@ module _ (A : Net) (i b : ℕ) (in-it : i < length (first A i)) (c : b < 256) wh
       (rw (← once-snoc (first A i) (λ b. next A b (here A i)) b) (grows-span (λ b. next A b (here A i)) (first A i) (b + 1) (255 - b)))))
       p
 
-grown-at : {l k : List Sit} → Grows l k → (i : ℕ) → i < length l → getD k i [] ≡ getD l i []
+pub grown-at : {l k : List Sit} → Grows l k → (i : ℕ) → i < length l → getD k i [] ≡ getD l i []
 grown-at {l} {k} g i b = ap (λ v. getD v i []) (sym (g .whole)) ∙ List·getD-append l (g .more) [] i b
 
-grown-length : {l k : List Sit} → Grows l k → length l ≤ length k
+pub grown-length : {l k : List Sit} → Grows l k → length l ≤ length k
 grown-length {l} g = omega (arith, ap length (g .whole), length-append l (g .more))
 
 pub registers-stop : (A : Net) → Stops A Too-many-registers → Registers-refused A

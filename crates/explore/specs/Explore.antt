@@ -41,6 +41,7 @@ pub record Too-many-situations (found : List Sit) (s : Sit) : Type 0 where
   pub most : length found ≡ 96
   pub new : among same-situation s found ≡ false
   pub needs : length (registers s) ≤ 64
+  pub few : (j : ℕ) → j < 96 → length (registers (getD found j [])) ≤ 64
 
 -- the state s, after `found`
 pub record Tries (A : Net) (N : ℕ) (w w′ : List ℕ) (count : ℕ) (l : Sit) (b : ℕ) (a : Tried) : Type 0 where

@@ -16,7 +16,7 @@ ghost use Rattle.paths.specs.Registers.{Tags, tagged};
 ghost use Rattle.paths.specs.Marks.{Marked, marking};
 ghost use Rattle.explore.specs.Items.{net, Formed, lands};
 ghost use Rattle.net.specs.Rec.{rec};
-ghost use Rattle.explore.specs.Onward.{onward-of};
+ghost use Rattle.explore.specs.Onward.{onward-of, closing-of};
 ghost use Rattle.explore.specs.States.{thread-of, threads-of, marked, count-of, Marked-by, Fit, Ready, Means, Put, tags-of};
 
 // From the records of an automaton file to its situations, in the lent work memory. States go by value.
@@ -158,6 +158,34 @@ pub fn visit(file: &[u8], offs: &[u16], stamp: u8, f: Found, e: Entry, fuel: usi
         Onward::Store(t, x) => visit(file, offs, stamp, g, e.tagged(t, stamp).moved(x), fuel - 1),
         Onward::Stay => g.put(e),
     }
+}
+
+// Whether a record is an END, and its answer.
+pub enum Closing {
+    Open,
+    With(u8),
+}
+
+pub fn end_at(file: &[u8], offs: &[u16], r: u8) -> Closing
+    requires { ⌜ Formed (now file) (now offs) ⌝ }
+    requires { ⌜ r < length (now offs) ⌝ }
+    ensures { λ a. ⌜ a ≡ closing-of (rec (net (now (file .entry)) (now (offs .entry))) r) ⌝ }
+{
+    let at = offs[r as usize] as usize;
+    let kind = file[at];
+    if kind == 17 {
+        return Closing::Open;
+    }
+    if kind == 18 {
+        return Closing::Open;
+    }
+    if kind == 19 {
+        return Closing::Open;
+    }
+    if kind == 20 {
+        return Closing::Open;
+    }
+    Closing::With(file[at + 1])
 }
 
 // The record that byte b leads to from record r, or 255.

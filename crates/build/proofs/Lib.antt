@@ -1,0 +1,5 @@
+pub mod Commands
+pub mod Writing
+pub mod Deeds
+pub mod Joining
+pub mod Tables
