@@ -1,1 +1,5 @@
 pub mod Rec
+pub mod File
+pub mod Items
+pub mod Calls
+pub mod Count
