@@ -1,13 +1,13 @@
 -- Document 01: a record matches exactly if it is in the language of the pattern with tags erased, by document 004's definitions. Assumes nothing.
-use mathlib.Core.Path.{_≡_, refl, sym, ap, _∙_, subst}
-use mathlib.Core.Logic.{_⊎_, inl, inr, _↔_}
-use mathlib.Core.List.{List, [], _∷_, _++_}
-use Prim.Native.Nat.{ℕ, zero, suc, _≤_}
-use Rattle.net.specs.Rec.{end, rec, bit}
+use mathlib.Core.Path.{_≡_, refl}
+use mathlib.Core.Logic.{inl, inr, _↔_}
+use mathlib.Core.List.{List}
+use Prim.Native.Nat.{ℕ, zero, suc}
+use Rattle.net.specs.Rec.{end, rec}
 use Rattle.paths.specs.Ways.{Move, Way, eaten, Accepts}
 use Rattle.pattern.specs.Pat.{Pat, Empty, Byte, Any, Set, Tag, Seq, Alt, Star, Plus, Opt, automaton}
 use Rattle.language.specs.Language.{In, nothing, byte, any, one-of, marked, both, left, right, over, round, rounds, with, without}
-use Rattle.language.specs.Words.{Words, Unit-word, Bytes, Sum, Product, Power, Iterate, language}
+use Rattle.language.specs.Words.{Power, Iterate, language}
 use Rattle.language.proofs.Matches.{matches, accepts-in}
 
 denotes-star : {p : Pat} → ((v : List ℕ) → In p v → language p v) → {w : List ℕ} → In (Star p) w → Iterate (language p) w

@@ -1,17 +1,17 @@
 -- Document 01: a record matches exactly if it is in the language of the pattern with tags erased. Assumes nothing.
 use mathlib.Core.Path.{_≡_, refl, sym, ap, _∙_, subst}
-use mathlib.Core.Logic.{_⊎_, inl, inr, _↔_}
-use mathlib.Core.List.{List, [], _∷_, _++_, append-nil}
-use mathlib.Core.Option.{Option, none, some}
-use Prim.Native.Nat.{ℕ, zero, suc, _+_, _≤_, _<_}
+use mathlib.Core.Logic.{_↔_}
+use mathlib.Core.List.{List, [], _++_, append-nil}
+use mathlib.Core.Option.{none, some}
+use Prim.Native.Nat.{ℕ}
 use native.Mathlib.Omega.{arith}
-use Rattle.net.specs.Rec.{Rec, range, mask, fork, tag, end, Net, rec}
-use Rattle.paths.specs.Ways.{Move, Step, by-range, by-mask, by-first, by-second, by-tag, Way, stay, go, eaten, Held, Accepts}
+use Rattle.net.specs.Rec.{end, Net, rec}
+use Rattle.paths.specs.Ways.{Move, by-range, by-mask, by-first, by-second, by-tag, Way, stay, go, eaten, Held, Accepts}
 use Rattle.paths.specs.Situation.{answer}
 use Rattle.paths.proofs.Answers.{accepted-by-any, answer-right, answer-none}
 use Rattle.pattern.specs.Pat.{Pat, size, automaton}
 use Rattle.language.specs.Language.{In}
-use Rattle.language.proofs.Walk.{At, start, stands, ends, begins, moves, eaten-moves, path-of, Leaves, leaves}
+use Rattle.language.proofs.Walk.{stands, ends, begins, moves, eaten-moves, path-of, Leaves, leaves}
 
 -- no move leads from an END
 pub at-rest : (A : Net) {r a last : ℕ} {ms : List Move} → rec A r ≡ end a → Way A r ms last → (ms ≡ []) × (last ≡ r)

@@ -1,43 +1,19 @@
 -- Paths through the records of a pattern, and its readings: one and the same. Assumes nothing.
-use mathlib.Core.Path.{_≡_, refl, sym, ap, _∙_, subst}
+use mathlib.Core.Path.{_≡_, refl, sym, ap, _∙_}
 use mathlib.Core.Logic.{_⊎_, inl, inr}
-use mathlib.Core.List.{List, [], _∷_, _++_, append-nil, append-assoc}
+use mathlib.Core.List.{List, [], _∷_, _++_, append-assoc}
 use Prim.Native.Nat.{ℕ, zero, suc, _+_, _≤_, _<_}
 use native.Mathlib.Omega.{arith}
 use native.Mathlib.Numerals.{add-one}
-use lib.ListN.{length, getD, length-append}
+use lib.ListN.{length, length-append}
 use lib.Seq.{append-snoc, getD-append-seam, getD-at}
 use Rattle.net.specs.Rec.{Rec, range, mask, fork, tag, end, Net, rec, bit}
-use Rattle.paths.specs.Ways.{Turn, first, second, mark, Move, eat, turn, Step, by-range, by-mask, by-first, by-second, by-tag, Way, stay, go, eaten}
+use Rattle.paths.specs.Ways.{first, second, mark, Move, eat, turn, Step, by-range, by-mask, by-first, by-second, by-tag, Way, stay, go, eaten}
 use Rattle.pattern.specs.Pat.{Pat, Empty, Byte, Any, Set, Tag, Seq, Alt, Star, Plus, Opt, size, startAt, compile, automaton}
+pub use Rattle.language.specs.Written.{start, At}
 use Rattle.language.specs.Language.{In, nothing, byte, any, one-of, marked, both, left, right, over, round, rounds, with, without}
 
 -- ---- a piece stands in A at n, followed by f
-
--- where a piece starts, by its parts
-abbrev pub start : Pat → ℕ → ℕ → ℕ
-start Empty n f = f
-start (Byte b) n f = n
-start Any n f = n
-start (Set s) n f = n
-start (Tag t) n f = n
-start (Seq p q) n f = start p n (start q (n + size p) f)
-start (Alt p q) n f = n
-start (Star p) n f = n
-start (Plus p) n f = n
-start (Opt p) n f = n
-
-abbrev pub At : Net → Pat → ℕ → ℕ → Type 0
-At A Empty n f = Unit {0}
-At A (Byte b) n f = rec A n ≡ range b b f
-At A Any n f = rec A n ≡ range 0 255 f
-At A (Set s) n f = rec A n ≡ mask s f
-At A (Tag t) n f = rec A n ≡ tag t f
-At A (Seq p q) n f = At A p n (start q (n + size p) f) × At A q (n + size p) f
-At A (Alt p q) n f = (rec A n ≡ fork (start p (n + 1) f) (start q (n + 1 + size p) f)) × At A p (n + 1) f × At A q (n + 1 + size p) f
-At A (Star p) n f = (rec A n ≡ fork (start p (n + 1) n) f) × At A p (n + 1) n
-At A (Plus p) n f = (rec A (n + size p) ≡ fork (start p n (n + size p)) f) × At A p n (n + size p)
-At A (Opt p) n f = (rec A n ≡ fork (start p (n + 1) f) f) × At A p (n + 1) f
 
 start-one : (k n f : ℕ) → startAt (k + 1) n f ≡ n
 start-one k n f = rw add-one

@@ -1,7 +1,3 @@
 pub mod Language
-pub mod Reading
-pub mod Trying
-pub mod Request
-pub mod Joined
 pub mod Words
-pub mod Copies
+pub mod Written

@@ -1,14 +1,13 @@
 -- The first END of the builder's list, with what its thread holds, is document 01's answer. Assumes nothing.
-use mathlib.Core.Path.{_≡_, refl, sym, ap, _∙_, subst}
+use mathlib.Core.Path.{_≡_, refl, sym, ap, _∙_}
 use mathlib.Core.Logic.{_⊎_, inl, inr, _↔_}
-use mathlib.Core.List.{List, [], _∷_, _++_, append-nil, append-assoc, List·Memᴰ, List·Memᴰ·head, List·Memᴰ·tail, List·Memᴰ·cases-cons}
+use mathlib.Core.List.{List, [], _∷_, _++_, append-nil, List·Memᴰ, List·Memᴰ·head, List·Memᴰ·tail, List·Memᴰ·cases-cons}
 use mathlib.Core.Option.{Option, none, some, Option·some-injective}
-use Prim.Native.Nat.{ℕ, zero, suc}
+use Prim.Native.Nat.{ℕ}
 use native.Mathlib.Omega.{arith}
 use lib.Seq.{append-snoc}
 use Rattle.net.specs.Rec.{Rec, range, mask, fork, tag, end, Net, rec}
-use Rattle.paths.specs.Ways.{Turn, first, second, mark, Move, eat, turn, Way, eaten, Admissible, Earlier, parts, later, stay, go, Held, empty-handed, act, held, Accepts, Answer}
-use Rattle.ground.specs.Lists.{each}
+use Rattle.paths.specs.Ways.{Move, Way, eaten, Earlier, later, stay, go, Held, empty-handed, act, held, Accepts, Answer}
 use Rattle.paths.specs.Search.{Thread, ons, add, firsts}
 use Rattle.paths.specs.Situation.{every, threads, ending, first-end, answer}
 use Rattle.paths.proofs.Member.{mem-or-not}
@@ -17,7 +16,7 @@ use Rattle.paths.proofs.Heart.{heart}
 use Rattle.paths.proofs.Faithful.{onto, Trail, Reached, every-sound}
 use Rattle.paths.proofs.Complete.{every-complete, loops}
 use Rattle.paths.proofs.Order.{Ordered, Bef, every-ordered, before-earlier, one-next}
-use Rattle.paths.proofs.Same.{lift, lifts, lifts-threads, lift-end, lifts-end}
+use Rattle.paths.proofs.Same.{lifts-threads, lift-end, lifts-end}
 
 -- ---- the first END of `firsts` is the first END
 
@@ -178,7 +177,7 @@ module _ (A : Net) (w : List ℕ) where
 
 -- ---- there is one answer at most
 
-asym : {p q : List Move} → Earlier p q → Earlier q p → ⊥
+pub asym : {p q : List Move} → Earlier p q → Earlier q p → ⊥
 asym (later d) (later e) = asym d e
 
 module _ (A : Net) where

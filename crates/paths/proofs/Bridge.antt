@@ -1,9 +1,9 @@
 -- The list that the builder keeps, RANGE, MASK and END records only and tags only, gives the answer. Assumes nothing.
 use mathlib.Core.Path.{_≡_, refl, sym, ap, _∙_}
-use mathlib.Core.Bool.{Bool, true, false, _&&_, cond}
+use mathlib.Core.Bool.{Bool, true, false, cond}
 use mathlib.Core.List.{List, [], _∷_, _++_}
-use mathlib.Core.Option.{Option, none, some}
-use Prim.Native.Nat.{ℕ, zero, suc, _+_}
+use mathlib.Core.Option.{Option}
+use Prim.Native.Nat.{ℕ, suc, _+_}
 use native.Mathlib.Numerals.{add-one}
 use native.Mathlib.Omega.{arith}
 use lib.ListN.{length}
@@ -33,7 +33,7 @@ no-end (tag t n) x o e = refl
 no-end (end a) x o e = let z : _≡_ {A = ℕ} 0 1 = cc in absurd (omega arith)
 
 module _ {X : Type 0} (A : Net) where
-  byte-standing : (f : Move → X → X) (b : ℕ) (l : List (Thread X)) → each (on-byte f A b) (standing A l) ≡ each (on-byte f A b) l
+  pub byte-standing : (f : Move → X → X) (b : ℕ) (l : List (Thread X)) → each (on-byte f A b) (standing A l) ≡ each (on-byte f A b) l
   unfolding on-byte
   byte-standing f b [] = refl
   byte-standing f b (s ∷ l) = by (byte-standing f b l) (stands (rec A (s .on))) (λ e. ap (follow f (s .had)) (no-bite b (rec A (s .on)) e))
@@ -45,7 +45,7 @@ module _ {X : Type 0} (A : Net) where
       by ih true h = ap (λ r. g s ++ r) ih
       by ih false h = ih ∙ ap (λ r. r ++ each g l) (sym (h refl))
 
-  end-standing : (l : List (Thread X)) → first-end A (standing A l) ≡ first-end A l
+  pub end-standing : (l : List (Thread X)) → first-end A (standing A l) ≡ first-end A l
   end-standing [] = refl
   end-standing (s ∷ l) = by (end-standing l) (stands (rec A (s .on))) (λ e. no-end (rec A (s .on)) (s .had) (first-end A l) e)
     where

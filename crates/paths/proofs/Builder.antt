@@ -1,8 +1,8 @@
 -- Document 01's numbering of situations, for an automaton. Assumes nothing.
-use mathlib.Core.Path.{_≡_, refl, sym, ap, ap₂, _∙_}
+use mathlib.Core.Path.{_≡_, refl, ap, ap₂}
 use mathlib.Core.Bool.{Bool, true, false, _&&_}
-use mathlib.Core.List.{List, [], _∷_, _++_, head-eq-of-cons-eq, tail-eq-of-cons-eq}
-use mathlib.Core.Option.{Option, none, some, Option·some-injective}
+use mathlib.Core.List.{List, [], _∷_}
+use mathlib.Core.Option.{Option, none, some}
 use Prim.Native.Nat.{ℕ, _≤_}
 use native.Mathlib.Omega.{arith}
 use lib.Dec.{eqb, eqb→eq, eqb-refl}
@@ -27,13 +27,13 @@ Tests {A} f = (x y : A) → (f x y ≡ true → x ≡ y) × (x ≡ y → f x y �
 from-refl : {A : Type 0} (f : A → A → Bool) → ((x y : A) → f x y ≡ true → x ≡ y) → ((x : A) → f x x ≡ true) → Tests f
 from-refl f g h x y = (g x y, λ e. rw (← e) (h x))
 
-tag-eq : (x y : Option ℕ) → same-tag x y ≡ true → x ≡ y
+pub tag-eq : (x y : Option ℕ) → same-tag x y ≡ true → x ≡ y
 tag-eq none none e = refl
 tag-eq none (some q) e = let z : _≡_ {A = ℕ} 0 1 = cc in absurd (omega arith)
 tag-eq (some p) none e = let z : _≡_ {A = ℕ} 0 1 = cc in absurd (omega arith)
 tag-eq (some p) (some q) e = ap some (eqb→eq p q (T-of e))
 
-tag-refl : (x : Option ℕ) → same-tag x x ≡ true
+pub tag-refl : (x : Option ℕ) → same-tag x x ≡ true
 tag-refl none = refl
 tag-refl (some p) = of-T (eqb p p) (eqb-refl p)
 

@@ -1,73 +1,49 @@
 -- The search with one set of marks finds, for each record, the first of all paths to it, in order. Assumes nothing.
-use mathlib.Core.Path.{_≡_, refl, sym, ap, _∙_, subst}
+use mathlib.Core.Path.{_≡_, refl, sym, ap, _∙_}
 use mathlib.Core.Logic.{_⊎_, inl, inr}
-use mathlib.Core.Bool.{Bool, true, false}
-use mathlib.Core.List.{List, [], _∷_, _++_, foldl, foldl-append, List·Memᴰ, List·Memᴰ·head, List·Memᴰ·tail, List·Memᴰ·cases-cons, List·Memᴰ·append-cases, List·Memᴰ·eq-of-singleton, Memᴰ·cast}
-use Prim.Native.Nat.{ℕ, zero, suc, _+_, _≤_, _<_}
+use mathlib.Core.List.{List, [], _∷_, _++_, foldl, List·Memᴰ, List·Memᴰ·head, List·Memᴰ·tail, List·Memᴰ·cases-cons, Memᴰ·cast}
+use Prim.Native.Nat.{ℕ, zero, suc, _<_}
 use native.Mathlib.Omega.{arith}
-use lib.ListN.{length}
 use Rattle.ground.specs.Lists.{each}
-use Rattle.paths.specs.Search.{choose, has, Thread, ons, add, firsts, paths, visit}
-use Rattle.paths.proofs.Member.{Bool-cases, choose-true, choose-false, has→mem, mem→has, hasnt→not, not→hasnt, mem-or-not, _⊆_, in-left, in-right, in-cases, in-each, mem-ons, equal-or-not, Enough, never, deeper, enough}
+use Rattle.paths.specs.Search.{Thread, ons, add, firsts, paths, visit}
+use Rattle.paths.proofs.Firsts.{Keyed, gather-append, gather-known, gather-keeps, gather-has, gather-in}
+use Rattle.paths.proofs.Member.{choose-true, choose-false, mem→has, not→hasnt, mem-or-not, _⊆_, in-left, in-right, in-cases, in-each, mem-ons, equal-or-not, Enough, never, deeper, enough}
 
 module _ {X : Type 0} where
-  -- ---- `firsts`: what is found already adds nothing; what is found stays; all of l is found
+  -- ---- `firsts`: the first thread on each record
+
+  pub by-record : Keyed {S = Thread X} (λ s. s .on) (λ y l. List·Memᴰ y (ons l)) add
+  by-record =
+      record {
+        none = λ m. elim m [ ];
+        split = λ m. List·Memᴰ·cases-cons m;
+        here = λ e. List·Memᴰ·head e;
+        there = λ m. List·Memᴰ·tail m;
+        decide = λ s O. mem-or-not (s .on) (ons O);
+        known = λ O s m. choose-true O (λ _. O ++ (s ∷ [])) (mem→has m);
+        new = λ O s h. choose-false O (λ _. O ++ (s ∷ [])) (not→hasnt h);
+      }
 
   pub add-known : (O : List (Thread X)) (s : Thread X) → List·Memᴰ (s .on) (ons O) → add O s ≡ O
-  add-known O s m = choose-true O (λ _. O ++ (s ∷ [])) (mem→has m)
+  add-known O s m = by-record .known O s m
 
   pub add-new : (O : List (Thread X)) (s : Thread X) → (¬ List·Memᴰ (s .on) (ons O)) → add O s ≡ O ++ (s ∷ [])
-  add-new O s h = choose-false O (λ _. O ++ (s ∷ [])) (not→hasnt h)
+  add-new O s h = by-record .new O s h
 
   pub firsts-append : (O l k : List (Thread X)) → firsts O (l ++ k) ≡ firsts (firsts O l) k
-  firsts-append O l k = foldl-append add O l k
+  firsts-append O l k = gather-append by-record O l k
 
   pub firsts-known : (l O : List (Thread X)) → ons l ⊆ ons O → firsts O l ≡ O
-  firsts-known [] O h = refl
-  firsts-known (s ∷ l) O h =
-      rw (add-known O s (h (s .on) (List·Memᴰ·head refl))) (firsts-known l O (λ y m. h y (List·Memᴰ·tail m)))
-
-  add-keeps : (O : List (Thread X)) (s : Thread X) → ons O ⊆ ons (add O s)
-  add-keeps O s y m = by (mem-or-not (s .on) (ons O))
-    where
-      by : List·Memᴰ (s .on) (ons O) ⊎ (¬ List·Memᴰ (s .on) (ons O)) → List·Memᴰ y (ons (add O s))
-      by (inl h) = rw (add-known O s h) m
-      by (inr h) = rw (add-new O s h) (in-left O (s ∷ []) m)
-
-  add-has : (O : List (Thread X)) (s : Thread X) → List·Memᴰ (s .on) (ons (add O s))
-  add-has O s = by (mem-or-not (s .on) (ons O))
-    where
-      by : List·Memᴰ (s .on) (ons O) ⊎ (¬ List·Memᴰ (s .on) (ons O)) → List·Memᴰ (s .on) (ons (add O s))
-      by (inl h) = rw (add-known O s h) h
-      by (inr h) = rw (add-new O s h) (in-right O (s ∷ []) (List·Memᴰ·head refl))
+  firsts-known l O h = gather-known by-record l O h
 
   pub firsts-keeps : (l O : List (Thread X)) → ons O ⊆ ons (firsts O l)
-  firsts-keeps [] O y m = m
-  firsts-keeps (s ∷ l) O y m = firsts-keeps l (add O s) y (add-keeps O s y m)
+  firsts-keeps l O y m = gather-keeps by-record l O m
 
   pub firsts-has : (l O : List (Thread X)) → ons l ⊆ ons (firsts O l)
-  firsts-has [] O y m = absurd (elim m [ ])
-  firsts-has (s ∷ l) O y m = by (λ k. firsts-has l (add O s) y k) (List·Memᴰ·cases-cons m)
-    where
-      by : (List·Memᴰ y (ons l) → List·Memᴰ y (ons (firsts (add O s) l))) → (y ≡ s .on) ⊎ List·Memᴰ y (ons l) → List·Memᴰ y (ons (firsts (add O s) l))
-      by ih (inl e) = Memᴰ·cast e (firsts-keeps l (add O s) (s .on) (add-has O s))
-      by ih (inr k) = ih k
+  firsts-has l O y m = gather-has by-record l O m
 
   pub firsts-in : (l O : List (Thread X)) {t : Thread X} → List·Memᴰ t (firsts O l) → List·Memᴰ t O ⊎ List·Memᴰ t l
-  firsts-in [] O m = inl m
-  firsts-in (s ∷ l) O {t} m = by (firsts-in l (add O s) m)
-    where
-      snoc : List·Memᴰ t O ⊎ List·Memᴰ t (s ∷ []) → List·Memᴰ t O ⊎ List·Memᴰ t (s ∷ l)
-      snoc (inl k) = inl k
-      snoc (inr k) = inr (List·Memᴰ·head (List·Memᴰ·eq-of-singleton k))
-
-      added : List·Memᴰ t (add O s) → List·Memᴰ (s .on) (ons O) ⊎ (¬ List·Memᴰ (s .on) (ons O)) → List·Memᴰ t O ⊎ List·Memᴰ t (s ∷ l)
-      added k (inl h) = inl (rw (add-known O s h) at k)
-      added k (inr h) = snoc (List·Memᴰ·append-cases O (rw (add-new O s h) at k))
-
-      by : List·Memᴰ t (add O s) ⊎ List·Memᴰ t l → List·Memᴰ t O ⊎ List·Memᴰ t (s ∷ l)
-      by (inl k) = added k (mem-or-not (s .on) (ons O))
-      by (inr k) = inr (List·Memᴰ·tail k)
+  firsts-in l O m = gather-in by-record l O m
 
 -- ---- the search
 -- `nexts r` are the records that one quiet step leads to from r, whatever the thread has gathered. Below N only has it any.

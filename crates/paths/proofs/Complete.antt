@@ -1,18 +1,18 @@
 -- Every admissible path is in `every`; and cutting loops loses no match. Assumes nothing.
-use mathlib.Core.Path.{_≡_, refl, sym, ap, _∙_, subst}
+use mathlib.Core.Path.{_≡_, refl, sym, ap, _∙_}
 use mathlib.Core.Logic.{_⊎_, inl, inr}
-use mathlib.Core.List.{List, [], _∷_, _++_, foldl, append-nil, append-assoc, List·Memᴰ, List·Memᴰ·head, List·Memᴰ·tail, List·Memᴰ·cases-cons, List·Memᴰ·append-cases, Memᴰ·cast, head-eq-of-cons-eq, tail-eq-of-cons-eq, nil≢cons, cons≢nil}
-use Prim.Native.Nat.{ℕ, zero, suc, _+_, _≤_, _<_, suc-le-suc}
+use mathlib.Core.List.{List, [], _∷_, _++_, append-nil, append-assoc, List·Memᴰ, List·Memᴰ·head, List·Memᴰ·tail, head-eq-of-cons-eq, tail-eq-of-cons-eq, nil≢cons, cons≢nil}
+use Prim.Native.Nat.{ℕ, zero, suc}
 use native.Mathlib.Omega.{arith}
-use lib.ListN.{length, getD}
+use lib.ListN.{length}
 use lib.Seq.{append-snoc}
-use Rattle.net.specs.Rec.{Rec, Net, rec}
-use Rattle.paths.specs.Ways.{Turn, Move, eat, turn, Step, Way, stay, go, eaten, since, Admissible, Earlier}
+use Rattle.net.specs.Rec.{Net}
+use Rattle.paths.specs.Ways.{Turn, Move, eat, turn, Step, Way, stay, go, eaten, Admissible}
 use Rattle.ground.specs.Lists.{each}
-use Rattle.paths.specs.Search.{choose, has, Thread, ons, add, firsts, paths, visit}
-use Rattle.paths.specs.Situation.{quiet, bite, follow, on-quiet, on-byte, every, close, threads}
-use Rattle.paths.proofs.Member.{mem→has, not→hasnt, mem-or-not, _⊆_, in-left, in-right, in-cases, in-each, mem-ons, ons-mem, Enough, never, deeper, enough}
-use Rattle.paths.proofs.Closure.{Closed, Done, firsts-in}
+use Rattle.paths.specs.Search.{ons, firsts, paths}
+use Rattle.paths.specs.Situation.{on-quiet, on-byte, every, close, threads}
+use Rattle.paths.proofs.Member.{not→hasnt, mem-ons, ons-mem, Enough, never, deeper, enough}
+use Rattle.paths.proofs.Closure.{firsts-in}
 use Rattle.paths.proofs.Heart.{nexts, inner, leads, closing, heart}
 use Rattle.paths.proofs.Faithful.{onto, Trail, each-has, follow-has, step-quiet, step-bite, Reached, every-sound}
 

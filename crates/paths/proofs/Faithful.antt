@@ -2,19 +2,19 @@
 use mathlib.Core.Path.{_≡_, refl, sym, ap, _∙_, subst}
 use mathlib.Core.Logic.{_⊎_, inl, inr}
 use mathlib.Core.Bool.{Bool, true, false, _&&_, cond}
-use mathlib.Core.List.{List, [], _∷_, _++_, foldl, append-nil, append-assoc, List·Memᴰ, List·Memᴰ·head, List·Memᴰ·tail, List·Memᴰ·cases-cons, List·Memᴰ·append-cases, Memᴰ·append-left, Memᴰ·append-right, Memᴰ·cast, head-eq-of-cons-eq, tail-eq-of-cons-eq, nil≢cons, cons≢nil}
-use Prim.Native.Nat.{ℕ, zero, suc, _+_, _≤_, _<_, suc-le-suc}
+use mathlib.Core.List.{List, [], _∷_, _++_, append-nil, append-assoc, List·Memᴰ, List·Memᴰ·head, List·Memᴰ·tail, List·Memᴰ·cases-cons}
+use Prim.Native.Nat.{ℕ, zero, suc}
 use native.Mathlib.Omega.{arith}
-use lib.Dec.{T, leb, eqb, leb→le, le→leb, eqb→eq, eqb-refl}
-use lib.ListN.{length, getD}
+use lib.Dec.{T, leb, eqb, leb→le, le→leb, eqb→eq}
+use lib.ListN.{length}
 use lib.Seq.{append-snoc}
 use Rattle.net.specs.Rec.{Rec, range, mask, fork, tag, end, Net, rec, bit}
-use Rattle.paths.specs.Ways.{Turn, first, second, mark, Move, eat, turn, Step, by-range, by-mask, by-first, by-second, by-tag, Way, stay, go, eaten, since, Admissible, Earlier}
+use Rattle.paths.specs.Ways.{Move, eat, turn, Step, by-range, by-mask, by-first, by-second, by-tag, Way, stay, go, eaten, since, Admissible}
 use Rattle.ground.specs.Lists.{each}
-use Rattle.paths.specs.Search.{choose, has, Thread, ons, add, firsts, paths, visit}
-use Rattle.paths.specs.Situation.{quiet, bite, follow, on-quiet, on-byte, every, close, threads}
-use Rattle.paths.proofs.Member.{T-of, of-T, mem→has, not→hasnt, mem-or-not, _⊆_, in-left, in-right, in-each, mem-ons, ons-append}
-use Rattle.paths.proofs.Heart.{nexts, inner}
+use Rattle.paths.specs.Search.{Thread, paths}
+use Rattle.paths.specs.Situation.{quiet, bite, follow, on-quiet, on-byte, every}
+pub use Rattle.paths.proofs.Common.{each-cases, each-has}
+use Rattle.paths.proofs.Member.{mem→has, not→hasnt, mem-or-not}
 
 -- a thread that gathers its moves
 abbrev pub onto : Move → List Move → List Move
@@ -27,20 +27,7 @@ abbrev pub Quiet : Move → Type 0
 Quiet (eat b) = ⊥
 Quiet (turn q) = Unit {0}
 
--- ---- membership in `each` and `follow`
-
-pub each-cases : {A B : Type 0} (g : A → List B) (l : List A) {t : B} → List·Memᴰ t (each g l) → (s : A) × List·Memᴰ s l × List·Memᴰ t (g s)
-each-cases g [] m = absurd (elim m [ ])
-each-cases {A} g (x ∷ l) {t} m = by (λ k. each-cases g l k) (List·Memᴰ·append-cases (g x) m)
-  where
-    by : (List·Memᴰ t (each g l) → (s : A) × List·Memᴰ s l × List·Memᴰ t (g s)) → List·Memᴰ t (g x) ⊎ List·Memᴰ t (each g l)
-        → (s : A) × List·Memᴰ s (x ∷ l) × List·Memᴰ t (g s)
-    by ih (inl h) = (x, List·Memᴰ·head refl, h)
-    by ih (inr h) = let r = ih h in (r .0, List·Memᴰ·tail (r .1), r .2)
-
-pub each-has : {A B : Type 0} (g : A → List B) {l : List A} {s : A} {t : B} → List·Memᴰ s l → List·Memᴰ t (g s) → List·Memᴰ t (each g l)
-each-has g {s = s} {t = t} (List·Memᴰ·head {x = x} {xs = xs} e) k = Memᴰ·append-left (each g xs) (rw e at k)
-each-has g (List·Memᴰ·tail {x = x} m) k = Memᴰ·append-right (g x) (each-has g m k)
+-- ---- membership in `follow`
 
 module _ {X : Type 0} (f : Move → X → X) (x : X) where
   pub follow-cases : (es : List (Move × ℕ)) {t : Thread X} → List·Memᴰ t (follow f x es)

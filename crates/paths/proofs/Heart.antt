@@ -1,27 +1,19 @@
 -- After any input the builder's list is the first of all admissible paths to each record, in order. Assumes nothing.
-use mathlib.Core.Path.{_≡_, refl, sym, ap, _∙_, subst, fun-ext}
+use mathlib.Core.Path.{_≡_, refl, sym, ap, _∙_, fun-ext}
 use mathlib.Core.Logic.{_⊎_, inl, inr}
-use mathlib.Core.List.{List, [], _∷_, _++_, foldl, append-nil, append-assoc, List·Memᴰ, List·Memᴰ·head, List·Memᴰ·tail, List·Memᴰ·cases-cons, head-eq-of-cons-eq, tail-eq-of-cons-eq, nil≢cons, cons≢nil}
-use Prim.Native.Nat.{ℕ, zero, suc, _+_, _≤_, _<_, suc-le-suc}
+use mathlib.Core.List.{List, [], _∷_, _++_, List·Memᴰ, head-eq-of-cons-eq, tail-eq-of-cons-eq, nil≢cons, cons≢nil}
+use Prim.Native.Nat.{ℕ, zero, suc, _<_, suc-le-suc}
 use native.Mathlib.Omega.{arith}
-use lib.ListN.{length, getD}
-use Rattle.net.specs.Rec.{Rec, range, mask, fork, tag, end, Net, rec}
+use lib.ListN.{length}
+use Rattle.net.specs.Rec.{Net, rec}
 use Rattle.paths.specs.Ways.{Move}
 use Rattle.ground.specs.Lists.{each}
-use Rattle.paths.specs.Search.{choose, has, Thread, ons, add, firsts, paths, visit}
+use Rattle.paths.specs.Search.{Thread, ons, firsts, paths}
 use Rattle.paths.specs.Situation.{quiet, bite, follow, on-quiet, on-byte, every, close, threads}
-use Rattle.paths.proofs.Member.{mem→has, not→hasnt, mem-or-not, _⊆_, in-left, in-right, in-each, mem-ons, ons-append}
-use Rattle.paths.proofs.Closure.{add-known, add-new, firsts-append, firsts-known, firsts-has, Closed, Done, search-finds}
-
--- ---- `each`
-
-pub each-append : {A B : Type 0} (f : A → List B) (l k : List A) → each f (l ++ k) ≡ each f l ++ each f k
-each-append f [] k = refl
-each-append f (x ∷ l) k = ap (λ r. f x ++ r) (each-append f l k) ∙ sym (append-assoc (f x) (each f l) (each f k))
-
-pub each-each : {A B C : Type 0} (g : B → List C) (f : A → List B) (l : List A) → each g (each f l) ≡ each (λ x. each g (f x)) l
-each-each g f [] = refl
-each-each g f (x ∷ l) = each-append g (f x) (each f l) ∙ ap (λ r. each g (f x) ++ r) (each-each g f l)
+pub use Rattle.paths.proofs.Common.{each-append, each-each}
+use Rattle.paths.proofs.Firsts.{optimal-from}
+use Rattle.paths.proofs.Member.{mem→has, not→hasnt, mem-or-not, ons-append}
+use Rattle.paths.proofs.Closure.{by-record, Done, search-finds}
 
 module _ {X : Type 0} where
   -- ---- a step whose records depend only on the record that it starts from
@@ -41,39 +33,8 @@ module _ {X : Type 0} where
 
   -- ---- prefix optimality: from a list of threads, only the first on each record matter
 
-  in-some : {y : ℕ} (g : Thread X → List (Thread X)) → Even g → (l : List (Thread X)) (s : Thread X) → List·Memᴰ (s .on) (ons l)
-      → List·Memᴰ y (ons (g s)) → List·Memᴰ y (ons (each g l))
-  in-some g h [] s m k = absurd (elim m [ ])
-  in-some {y} g h (t ∷ l) s m k = by (λ j. in-some g h l s j k) (List·Memᴰ·cases-cons m)
-    where
-      by : (List·Memᴰ (s .on) (ons l) → List·Memᴰ y (ons (each g l))) → (s .on ≡ t .on) ⊎ List·Memᴰ (s .on) (ons l) → List·Memᴰ y (ons (g t ++ each g l))
-      by ih (inl e) = in-left (g t) (each g l) (rw (h s t e) at k)
-      by ih (inr j) = in-right (g t) (each g l) (ih j)
-
-  one-more : (g : Thread X → List (Thread X)) → Even g → (O : List (Thread X)) (s : Thread X)
-      → firsts [] (each g (add O s)) ≡ firsts (firsts [] (each g O)) (g s)
-  one-more g h O s = by (mem-or-not (s .on) (ons O))
-    where
-      by : List·Memᴰ (s .on) (ons O) ⊎ (¬ List·Memᴰ (s .on) (ons O)) → firsts [] (each g (add O s)) ≡ firsts (firsts [] (each g O)) (g s)
-      by (inl m) =
-          ap (λ o. firsts [] (each g o)) (add-known O s m)
-          ∙ sym (firsts-known (g s) (firsts [] (each g O)) (λ y k. firsts-has (each g O) [] y (in-some g h O s m k)))
-      by (inr m) =
-          ap (λ o. firsts [] (each g o)) (add-new O s m)
-          ∙ ap (λ l. firsts [] l) (each-append g O (s ∷ []))
-          ∙ firsts-append [] (each g O) (g s ++ [])
-          ∙ ap (λ l. firsts (firsts [] (each g O)) l) (append-nil (g s))
-
-  optimal-from : (g : Thread X → List (Thread X)) → Even g → (l O : List (Thread X))
-      → firsts [] (each g (firsts O l)) ≡ firsts (firsts [] (each g O)) (each g l)
-  optimal-from g h [] O = refl
-  optimal-from g h (s ∷ l) O =
-      optimal-from g h l (add O s)
-      ∙ ap (λ o. firsts o (each g l)) (one-more g h O s)
-      ∙ sym (firsts-append (firsts [] (each g O)) (g s) (each g l))
-
   pub optimal : (g : Thread X → List (Thread X)) → Even g → (l : List (Thread X)) → firsts [] (each g (firsts [] l)) ≡ firsts [] (each g l)
-  optimal g h l = optimal-from g h l []
+  optimal g h l = optimal-from by-record g (λ s t e y m. rw (h s t e) at m) [] l []
 
   -- ---- `paths` is even where its graph is
 

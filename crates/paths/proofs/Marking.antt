@@ -1,6 +1,5 @@
 -- The search with its marks apart gives the list of `close`, RANGE, MASK and END records only. Assumes nothing.
 use mathlib.Core.Path.{_≡_, refl, sym, ap, _∙_}
-use mathlib.Core.Logic.{_⊎_, inl, inr}
 use mathlib.Core.Bool.{Bool, true, false, cond}
 use mathlib.Core.List.{List, [], _∷_, _++_, foldl}
 use Prim.Native.Nat.{ℕ, zero, suc}
@@ -11,7 +10,7 @@ use Rattle.paths.specs.Search.{choose, has, Thread, ons, visit}
 use Rattle.paths.specs.Situation.{on-quiet, close}
 use Rattle.paths.specs.Registers.{stands, standing}
 use Rattle.paths.specs.Marks.{Marked, marked-with, marking, marked-close}
-use Rattle.paths.proofs.Member.{Bool-cases, ons-append}
+use Rattle.paths.proofs.Member.{ons-append}
 
 module _ {X : Type 0} (f : Move → X → X) (A : Net) where
   -- what code keeps of what has been found

@@ -2,20 +2,19 @@
 use mathlib.Core.Path.{_≡_, refl, sym, ap, _∙_, subst}
 use mathlib.Core.Logic.{_⊎_, inl, inr}
 use mathlib.Core.Bool.{Bool, true, false, cond}
-use mathlib.Core.List.{List, [], _∷_, _++_, append-nil, append-assoc, List·Memᴰ, List·Memᴰ·head, List·Memᴰ·tail, List·Memᴰ·cases-cons, List·Memᴰ·append-cases, List·Memᴰ·eq-of-singleton, Memᴰ·append-left, Memᴰ·append-right, Memᴰ·cast}
-use Prim.Native.Nat.{ℕ, zero, suc}
+use mathlib.Core.List.{List, [], _∷_, append-nil, List·Memᴰ, List·Memᴰ·head, List·Memᴰ·tail, List·Memᴰ·cases-cons}
+use Prim.Native.Nat.{ℕ}
 use native.Mathlib.Omega.{arith}
-use lib.Seq.{append-snoc}
 use lib.ListN.{length}
 use Rattle.net.specs.Rec.{Rec, range, mask, fork, tag, end, Net, rec}
-use Rattle.paths.specs.Ways.{Move, Way, eaten, Admissible, Earlier, empty-handed, held}
-use Rattle.ground.specs.Lists.{each}
-use Rattle.paths.specs.Search.{Thread, ons, add, firsts}
+use Rattle.paths.specs.Ways.{Move, Earlier, empty-handed, held}
+use Rattle.paths.specs.Search.{Thread, ons, firsts}
 use Rattle.paths.specs.Situation.{every, threads}
-use Rattle.paths.specs.Registers.{Tags, stands, standing, begin, after}
-use Rattle.paths.specs.Meaning.{Stands, Sorted, Once, Situation, with-tags, waiting}
-use Rattle.paths.proofs.Member.{mem-or-not, mem-ons, ons-mem, ons-append, in-left, in-right}
-use Rattle.paths.proofs.Closure.{add-known, add-new, firsts-in, firsts-has}
+use Rattle.paths.specs.Registers.{Tags, stands, standing, begin, after, number, situation}
+use Rattle.paths.specs.Meaning.{Stands, Sorted, Once, Situation, trails, with-tags, waiting, meant}
+use Rattle.paths.proofs.Firsts.{Sole, gather-sole, gather-ordered, gather-first}
+use Rattle.paths.proofs.Member.{mem-ons, ons-mem}
+use Rattle.paths.proofs.Closure.{by-record, firsts-in, firsts-has}
 use Rattle.paths.proofs.Heart.{heart}
 use Rattle.paths.proofs.Faithful.{onto, Trail, Reached, every-sound}
 use Rattle.paths.proofs.Complete.{every-complete}
@@ -23,121 +22,16 @@ use Rattle.paths.proofs.Same.{lifts}
 use Rattle.paths.proofs.Bridge.{at-place, after-paths}
 use Rattle.paths.proofs.Order.{Ordered, Bef, every-ordered, before-waiting, sort}
 
--- ---- a list in which every record appears once, and by the first thread of another list
+-- ---- a list in which every record appears once
 
-module _ {B : Type 0} (R : Thread B → Thread B → Type 0) where
-  -- t is the first of l on its record
-  abbrev First : List (Thread B) → Thread B → Type 0
-  First l t = (u : Thread B) → List·Memᴰ u l → u .on ≡ t .on → (u ≡ t) ⊎ R t u
-
-  ordered-left : (l k : List (Thread B)) → Ordered R (l ++ k) → Ordered R l
-  ordered-left [] k o = tt
-  ordered-left (s ∷ l) k o = (λ t m. o .0 t (Memᴰ·append-left k m), ordered-left l k (o .1))
-
-  -- whatever stands before in order
-  ordered-cross : (l k : List (Thread B)) → Ordered R (l ++ k) → (s t : Thread B) → List·Memᴰ s l → List·Memᴰ t k → R s t
-  ordered-cross [] k o s t m n = absurd (elim m [ ])
-  ordered-cross (x ∷ l) k o s t m n = by (λ j. ordered-cross l k (o .1) s t j n) (List·Memᴰ·cases-cons m)
-    where
-      by : (List·Memᴰ s l → R s t) → (s ≡ x) ⊎ List·Memᴰ s l → R s t
-      by ih (inl e) = rw e (o .0 t (Memᴰ·append-right l n))
-      by ih (inr j) = ih j
-
-  ordered-skip : (l : List (Thread B)) (s : Thread B) (k : List (Thread B)) → Ordered R (l ++ s ∷ k) → Ordered R (l ++ k)
-  ordered-skip [] s k o = o .1
-  ordered-skip (x ∷ l) s k o = (λ t m. o .0 t (more t (List·Memᴰ·append-cases l m)), ordered-skip l s k (o .1))
-    where
-      more : (t : Thread B) → List·Memᴰ t l ⊎ List·Memᴰ t k → List·Memᴰ t (l ++ s ∷ k)
-      more t (inl m) = Memᴰ·append-left (s ∷ k) m
-      more t (inr m) = Memᴰ·append-right l (List·Memᴰ·tail m)
-
-  firsts-ordered : (l O : List (Thread B)) → Ordered R (O ++ l) → Ordered R (firsts O l)
-  firsts-ordered [] O o = rw append-nil at o
-  firsts-ordered (s ∷ l) O o = firsts-ordered l (add O s) (by (mem-or-not (s .on) (ons O)))
-    where
-      by : List·Memᴰ (s .on) (ons O) ⊎ (¬ List·Memᴰ (s .on) (ons O)) → Ordered R (add O s ++ l)
-      by (inl m) = rw (add-known O s m) (ordered-skip O s l o)
-      by (inr m) = rw (add-new O s m, append-snoc) o
-
-  -- what is found is of O, or on a record that O has not
-  firsts-new : (l O : List (Thread B)) {t : Thread B} → List·Memᴰ t (firsts O l) → List·Memᴰ t O ⊎ (¬ List·Memᴰ (t .on) (ons O))
-  firsts-new [] O m = inl m
-  firsts-new (s ∷ l) O {t} m = by (mem-or-not (s .on) (ons O)) (firsts-new l (add O s) m)
-    where
-      snoc : (¬ List·Memᴰ (s .on) (ons O)) → List·Memᴰ t O ⊎ List·Memᴰ t (s ∷ []) → List·Memᴰ t O ⊎ (¬ List·Memᴰ (t .on) (ons O))
-      snoc h (inl n) = inl n
-      snoc h (inr n) = inr (λ j. h (rw (ap (λ v. v .on) (List·Memᴰ·eq-of-singleton n)) at j))
-
-      by : List·Memᴰ (s .on) (ons O) ⊎ (¬ List·Memᴰ (s .on) (ons O)) → List·Memᴰ t (add O s) ⊎ (¬ List·Memᴰ (t .on) (ons (add O s))) → List·Memᴰ t O ⊎ (¬ List·Memᴰ (t .on) (ons O))
-      by (inl h) (inl n) = inl (rw (add-known O s h) at n)
-      by (inl h) (inr n) = inr (rw (add-known O s h) at n)
-      by (inr h) (inl n) = snoc h (List·Memᴰ·append-cases O (rw (add-new O s h) at n))
-      by (inr h) (inr n) = inr (λ j. n (rw (add-new O s h) (in-left O (s ∷ []) j)))
-
-  -- of what is found each is the first, in O and l together
-  firsts-first : (l O : List (Thread B)) → Ordered R (O ++ l) → ((t : Thread B) → List·Memᴰ t O → First O t) → (t : Thread B) → List·Memᴰ t (firsts O l) → First (O ++ l) t
-  firsts-first [] O o h t m = rw append-nil (h t m)
-  firsts-first (s ∷ l) O o h t m = by (λ Q p g n. firsts-first l Q p g t n) (mem-or-not (s .on) (ons O))
-    where
-      -- s is known already
-      again : List·Memᴰ (s .on) (ons O) → First (O ++ l) t → List·Memᴰ t O ⊎ (¬ List·Memᴰ (t .on) (ons O)) → First (O ++ s ∷ l) t
-      again k f w u n e = split (List·Memᴰ·append-cases O n)
-        where
-          here : u ≡ s → List·Memᴰ t O ⊎ (¬ List·Memᴰ (t .on) (ons O)) → (u ≡ t) ⊎ R t u
-          here p (inl j) = inr (rw p (ordered-cross O (s ∷ l) o t s j (List·Memᴰ·head refl)))
-          here p (inr j) = absurd (j (Memᴰ·cast (sym e ∙ ap (λ v. v .on) p) k))
-
-          tail : (u ≡ s) ⊎ List·Memᴰ u l → (u ≡ t) ⊎ R t u
-          tail (inl p) = here p w
-          tail (inr j) = f u (Memᴰ·append-right O j) e
-
-          split : List·Memᴰ u O ⊎ List·Memᴰ u (s ∷ l) → (u ≡ t) ⊎ R t u
-          split (inl j) = f u (Memᴰ·append-left l j) e
-          split (inr j) = tail (List·Memᴰ·cases-cons j)
-
-      -- s is new
-      ends : (¬ List·Memᴰ (s .on) (ons O)) → (v : Thread B) → List·Memᴰ v (O ++ (s ∷ [])) → First (O ++ (s ∷ [])) v
-      ends k v n u j e = two (List·Memᴰ·append-cases O n) (List·Memᴰ·append-cases O j)
-        where
-          two : List·Memᴰ v O ⊎ List·Memᴰ v (s ∷ []) → List·Memᴰ u O ⊎ List·Memᴰ u (s ∷ []) → (u ≡ v) ⊎ R v u
-          two (inl a) (inl b) = h v a u b e
-          two (inl a) (inr b) = absurd (k (Memᴰ·cast (sym (ap (λ x. x .on) (List·Memᴰ·eq-of-singleton b)) ∙ e) (mem-ons a)))
-          two (inr a) (inl b) = absurd (k (Memᴰ·cast (sym (ap (λ x. x .on) (List·Memᴰ·eq-of-singleton a)) ∙ sym e) (mem-ons b)))
-          two (inr a) (inr b) = inl (List·Memᴰ·eq-of-singleton b ∙ sym (List·Memᴰ·eq-of-singleton a))
-
-      by : ((Q : List (Thread B)) → Ordered R (Q ++ l) → ((v : Thread B) → List·Memᴰ v Q → First Q v) → List·Memᴰ t (firsts Q l) → First (Q ++ l) t)
-          → List·Memᴰ (s .on) (ons O) ⊎ (¬ List·Memᴰ (s .on) (ons O)) → First (O ++ s ∷ l) t
-      by ih (inl k) =
-          let m′ : List·Memᴰ t (firsts O l) = subst (λ v. List·Memᴰ t (firsts v l)) (add-known O s k) m in
-          again k (ih O (ordered-skip O s l o) h m′) (firsts-new l O m′)
-      by ih (inr k) =
-          let m′ : List·Memᴰ t (firsts (O ++ (s ∷ [])) l) = subst (λ v. List·Memᴰ t (firsts v l)) (add-new O s k) m in
-          subst (λ v. First v t) (append-snoc O s l) (ih (O ++ (s ∷ [])) (rw append-snoc o) (ends k) m′)
-
-once-snoc : (l : List ℕ) (r : ℕ) → Once l → (¬ List·Memᴰ r l) → Once (l ++ (r ∷ []))
-once-snoc [] r o h = (λ m. elim m [ ], tt)
-once-snoc (x ∷ l) r o h = (λ m. by (List·Memᴰ·append-cases l m), once-snoc l r (o .1) (λ m. h (List·Memᴰ·tail m)))
-  where
-    last : (x ≡ r) ⊎ List·Memᴰ x [] → ⊥
-    last (inl e) = h (List·Memᴰ·head (sym e))
-    last (inr m) = elim m [ ]
-
-    by : List·Memᴰ x l ⊎ List·Memᴰ x (r ∷ []) → ⊥
-    by (inl m) = o .0 m
-    by (inr m) = last (List·Memᴰ·cases-cons m)
-
-firsts-once : {B : Type 0} (l O : List (Thread B)) → Once (ons O) → Once (ons (firsts O l))
-firsts-once [] O o = o
-firsts-once (s ∷ l) O o = firsts-once l (add O s) (by (mem-or-not (s .on) (ons O)))
-  where
-    by : List·Memᴰ (s .on) (ons O) ⊎ (¬ List·Memᴰ (s .on) (ons O)) → Once (ons (add O s))
-    by (inl m) = rw (add-known O s m) o
-    by (inr m) = rw (add-new O s m, ons-append O (s ∷ [])) (once-snoc (ons O) (s .on) o m)
+sole-once : {B : Type 0} (l : List (Thread B)) → Sole by-record l → Once (ons l)
+sole-once [] o = tt
+sole-once (s ∷ l) o = (o .0, sole-once l (o .1))
 
 -- ---- of these, the records that wait
 
 module _ {B : Type 0} (A : Net) where
-  standing-in : (l : List (Thread B)) {t : Thread B} → List·Memᴰ t (standing A l) → List·Memᴰ t l × (stands (rec A (t .on)) ≡ true)
+  pub standing-in : (l : List (Thread B)) {t : Thread B} → List·Memᴰ t (standing A l) → List·Memᴰ t l × (stands (rec A (t .on)) ≡ true)
   standing-in [] m = absurd (elim m [ ])
   standing-in (s ∷ l) {t} m = by (λ n. standing-in l n) (stands (rec A (s .on))) refl m
     where
@@ -232,10 +126,10 @@ module _ (A : Net) (w : List ℕ) where
       record {
         sound = kept-sound;
         complete = λ ms r c. present ms r c (ons-mem (firsts [] all) (firsts-has all [] r (mem-ons (listed ms r c))));
-        once = standing-once A (firsts [] all) (firsts-once all [] tt);
-        earliest = λ t m ms c. by t m ms c (firsts-first Bef all [] (every-ordered A w start) (λ v n. absurd (elim n [ ])) t (standing-in A (firsts [] all) m .0)
+        once = standing-once A (firsts [] all) (sole-once (firsts [] all) (gather-sole by-record all [] tt));
+        earliest = λ t m ms c. by t m ms c (gather-first by-record Bef all [] (every-ordered A w start) (λ v n. absurd (elim n [ ])) t (standing-in A (firsts [] all) m .0)
             (record { on = t .on; had = ms }) (listed ms (t .on) c) refl);
-        sorted = sorted-of kept (standing-ordered A Bef (firsts [] all) (firsts-ordered Bef all [] (every-ordered A w start))) kept-sound;
+        sorted = sorted-of kept (standing-ordered A Bef (firsts [] all) (gather-ordered by-record Bef all [] (every-ordered A w start))) kept-sound;
       }
     where
       present : (ms : List Move) (r : ℕ) → Stands A w ms r → (t : Trail) × List·Memᴰ t (firsts [] all) × (r ≡ t .on) → List·Memᴰ r (ons kept)
@@ -246,9 +140,17 @@ module _ (A : Net) (w : List ℕ) where
       by t m ms c (inl e) = inl (ap (λ v. v .had) e)
       by t m ms c (inr b) = inr (order t (record { on = t .on; had = ms }) (kept-sound t m) c b)
 
+  pub trails-right : Situation A w (trails A w)
+  unfolding trails
+  trails-right = kept-right
+
+  pub trails-threads : trails A w ≡ standing A (threads onto A w (start ∷ []))
+  unfolding trails
+  trails-threads = ap (λ l. standing A l) (sym (heart onto A w (start ∷ []) ∙ ap (λ l. firsts [] l) (append-nil all)))
+
   -- what the builder keeps after w is the situation of document 01
   pub threads-right : Situation A w (standing A (threads onto A w (start ∷ [])))
-  threads-right = subst (λ l. Situation A w (standing A l)) (sym (heart onto A w (start ∷ []) ∙ ap (λ l. firsts [] l) (append-nil all))) kept-right
+  threads-right = subst (λ l. Situation A w l) trails-threads trails-right
 
 -- ---- and, by computation, the list that the builder keeps
 
@@ -263,7 +165,12 @@ tags-back p (s ∷ l) = ap (λ r. s ∷ r) (tags-back p l)
 pub waiting-after : (A : Net) (w : List ℕ) → waiting A w ≡ after A 0 (begin A) w
 unfolding waiting
 waiting-after A w =
-    with-tags-lifts (standing A (firsts [] (all A w)))
-    ∙ ap (λ l. lifts (λ h. h .tags) (lifts (λ p. held p empty-handed) (standing A l))) (sym (heart onto A w (start A w ∷ []) ∙ ap (λ l. firsts [] l) (append-nil (all A w))))
+    with-tags-lifts (trails A w)
+    ∙ ap (λ l. lifts (λ h. h .tags) (lifts (λ p. held p empty-handed) l)) (trails-threads A w)
     ∙ ap (λ l. lifts (λ h. h .tags) l) (sym (after-paths A w))
     ∙ tags-back (length w) (after A 0 (begin A) w)
+
+-- THE SITUATION: defined with no search, and computed by one
+pub situation-meant : (A : Net) (w : List ℕ) → situation A w ≡ meant A w
+unfolding situation meant
+situation-meant A w = ap number (sym (waiting-after A w))

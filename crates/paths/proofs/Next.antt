@@ -1,15 +1,15 @@
 -- The next situation follows from the last one and the byte alone. Assumes nothing.
-use mathlib.Core.Path.{_≡_, refl, sym, ap, ap₂, _∙_, subst}
+use mathlib.Core.Path.{_≡_, refl, sym, ap, ap₂, _∙_}
 use mathlib.Core.Logic.{_⊎_, inl, inr}
-use mathlib.Core.Bool.{Bool, true, false, _&&_, cond}
-use mathlib.Core.List.{List, [], _∷_, _++_, map, foldl, foldl-append, List·Memᴰ, List·Memᴰ·head, List·Memᴰ·tail, List·Memᴰ·cases-cons, List·Memᴰ·append-cases, Memᴰ·append-left, Memᴰ·append-right, Memᴰ·cast, Memᴰ·of-map}
-use mathlib.Core.Option.{Option, none, some}
-use Prim.Native.Nat.{ℕ, zero, suc, _+_, _≤_, _<_}
+use mathlib.Core.Bool.{Bool, true, false, cond}
+use mathlib.Core.List.{List, [], _∷_, _++_, foldl, foldl-append, List·Memᴰ, List·Memᴰ·head, List·Memᴰ·tail, List·Memᴰ·cases-cons, List·Memᴰ·append-cases, Memᴰ·of-map}
+use mathlib.Core.Option.{none, some}
+use Prim.Native.Nat.{ℕ, zero, suc, _≤_, _<_}
 use native.Mathlib.Nat.{lt-irrefl}
 use native.Mathlib.Omega.{arith}
-use lib.Dec.{T, ltb, ltb→lt, lt→ltb}
+use lib.Dec.{ltb, ltb→lt, lt→ltb}
 use lib.ListN.{length, getD, set, length-map}
-use Rattle.net.specs.Rec.{Rec, Net, rec}
+use Rattle.net.specs.Rec.{Net, rec}
 use Rattle.paths.specs.Ways.{Turn, first, second, mark, Move, eat, turn}
 use Rattle.ground.specs.Lists.{each}
 use Rattle.paths.specs.Search.{choose, has, Thread, ons, visit}
@@ -17,7 +17,7 @@ use Rattle.paths.specs.Situation.{quiet, bite, follow, on-quiet, on-byte
 use Rattle.paths.specs.Registers.{Tags, no-tags, tagged, stands, standing, step, begin, after, Key, holds, held-by, index, registers, renamed, rename, number, situation, next}
 use Rattle.paths.proofs.Member.{Bool-cases, T-of, of-T}
 use Rattle.paths.proofs.Faithful.{each-cases, each-has, follow-cases}
-use Rattle.paths.proofs.Same.{lift, lifts, lifts-close, lifts-byte}
+use Rattle.paths.proofs.Same.{lifts, lifts-close, lifts-byte}
 use Rattle.paths.proofs.Numbers.{hat, Apart, held-renamed, registers-hat, rename-rename, rename-same, rename-self, number-rename, register-at}
 
 -- ---- a property of what threads hold, kept by each move, is kept by the search
@@ -33,7 +33,7 @@ module _ {X : Type 0} (P : X → Type 0) where
       by (inl n) = g s n
       by (inr n) = h s n
 
-  single : (s : Thread X) → P (s .had) → Each (s ∷ [])
+  pub single : (s : Thread X) → P (s .had) → Each (s ∷ [])
   single s p t m = by (List·Memᴰ·cases-cons m)
     where
       by : (t ≡ s) ⊎ List·Memᴰ t [] → P (t .had)
@@ -58,16 +58,16 @@ module _ {X : Type 0} (P : X → Type 0) where
     each-follow : (x : X) (es : List (Move × ℕ)) → P x → Each (follow f x es)
     each-follow x es p t m = let c = follow-cases f x es m in rw (c .2) (keep (c .0 .0) x p)
 
-    each-close : (ss : List (Thread X)) → Each ss → Each (close f A ss)
+    pub each-close : (ss : List (Thread X)) → Each ss → Each (close f A ss)
     unfolding close on-quiet
     each-close ss g = each-fold (visit (on-quiet f A) (suc (length A)))
         (each-visit (on-quiet f A) (λ s p. each-follow (s .had) (quiet (rec A (s .on))) p) (suc (length A))) ss [] (λ s m. absurd (elim m [ ])) g
 
-    each-byte : (b : ℕ) (ss : List (Thread X)) → Each ss → Each (each (on-byte f A b) ss)
+    pub each-byte : (b : ℕ) (ss : List (Thread X)) → Each ss → Each (each (on-byte f A b) ss)
     unfolding on-byte
     each-byte b ss g t m = let c = each-cases (on-byte f A b) ss m in each-follow (c .0 .had) (bite b (rec A (c .0 .on))) (g (c .0) (c .1)) t (c .2)
 
-  each-standing : (A : Net) (l : List (Thread X)) → Each l → Each (standing A l)
+  pub each-standing : (A : Net) (l : List (Thread X)) → Each l → Each (standing A l)
   each-standing A [] g = g
   each-standing A (s ∷ l) g = by (each-standing A l (λ t m. g t (List·Memᴰ·tail m))) (stands (rec A (s .on)))
     where
@@ -131,7 +131,7 @@ held-step A now b l k m =
 -- ---- a step renamed is the step of the renamed list
 
 module _ (σ : ℕ → ℕ → ℕ) where
-  rename-lifts : (l : List (Thread Tags)) → rename σ l ≡ lifts (renamed σ 0) l
+  pub rename-lifts : (l : List (Thread Tags)) → rename σ l ≡ lifts (renamed σ 0) l
   rename-lifts [] = refl
   rename-lifts (s ∷ l) = ap (λ r. record { on = s .on; had = renamed σ 0 (s .had) } ∷ r) (rename-lifts l)
 

@@ -1,16 +1,17 @@
 -- Register numbers: other numbers for the places, each tag's apart, give the same situation. Assumes nothing.
-use mathlib.Core.Path.{_≡_, refl, sym, ap, ap₂, _∙_, subst}
+use mathlib.Core.Path.{_≡_, refl, sym, ap, ap₂, _∙_}
 use mathlib.Core.Logic.{_⊎_, inl, inr}
 use mathlib.Core.Bool.{Bool, true, false, _&&_, cond}
-use mathlib.Core.List.{List, [], _∷_, _++_, map, foldl, List·Memᴰ, List·Memᴰ·head, List·Memᴰ·tail, List·Memᴰ·cases-cons, List·Memᴰ·append-cases, Memᴰ·append-left, Memᴰ·append-right, Memᴰ·cast, Memᴰ·map, Memᴰ·of-map}
-use mathlib.Core.Option.{Option, none, some}
-use Prim.Native.Nat.{ℕ, zero, suc, _+_, _≤_, _<_}
+use mathlib.Core.List.{List, [], _∷_, _++_, map, foldl, List·Memᴰ, List·Memᴰ·head, List·Memᴰ·tail, List·Memᴰ·cases-cons, Memᴰ·append-left, Memᴰ·append-right, Memᴰ·cast}
+use mathlib.Core.Option.{none, some}
+use Prim.Native.Nat.{ℕ, suc, _<_}
 use native.Mathlib.Omega.{arith}
-use lib.Dec.{T, eqb, eqb→eq, eqb-refl}
+use lib.Dec.{eqb, eqb→eq, eqb-refl}
 use lib.ListN.{length, getD}
-use Rattle.ground.specs.Lists.{each}
 use Rattle.paths.specs.Search.{Thread}
 use Rattle.paths.specs.Registers.{Tags, Key, is, holds, held-by, index, known, note, registers, renamed, rename, number}
+use Rattle.paths.proofs.Common.{map-append}
+use Rattle.paths.proofs.Firsts.{Keyed, put-in, gather-has, gather-in}
 use Rattle.paths.proofs.Member.{Bool-cases, T-of, of-T}
 
 -- ---- keys
@@ -50,10 +51,6 @@ holds-renamed σ t [] = refl
 holds-renamed σ t (none ∷ τ) = holds-renamed σ (suc t) τ
 holds-renamed σ t (some p ∷ τ) = ap (λ r. (t, σ t p) ∷ r) (holds-renamed σ (suc t) τ)
 
-map-append : {A B : Type 0} (f : A → B) (l k : List A) → map f (l ++ k) ≡ map f l ++ map f k
-map-append f [] k = refl
-map-append f (x ∷ l) k = ap (λ r. f x ∷ r) (map-append f l k)
-
 pub held-renamed : (σ : ℕ → ℕ → ℕ) (l : List (Thread Tags)) → held-by (rename σ l) ≡ map (hat σ) (held-by l)
 held-renamed σ [] = refl
 held-renamed σ (s ∷ l) = rw (holds-renamed σ 0 (s .had), held-renamed σ l) (sym (map-append (hat σ) (holds 0 (s .had)) (held-by l)))
@@ -79,38 +76,7 @@ module _ (σ : ℕ → ℕ → ℕ) (U : List Key) (ap-U : Apart σ U) where
       by true = refl
       by false = sym (map-append (hat σ) ks (k ∷ []))
 
-note-in : (ks : List Key) (k : Key) {j : Key} → List·Memᴰ j (note ks k) → List·Memᴰ j ks ⊎ (j ≡ k)
-note-in ks k {j} m = by (known k ks) m
-  where
-    end : List·Memᴰ j ks ⊎ List·Memᴰ j (k ∷ []) → List·Memᴰ j ks ⊎ (j ≡ k)
-    end (inl n) = inl n
-    end (inr n) = only (List·Memᴰ·cases-cons n)
-      where
-        only : (j ≡ k) ⊎ List·Memᴰ j [] → List·Memᴰ j ks ⊎ (j ≡ k)
-        only (inl e) = inr e
-        only (inr o) = absurd (elim o [ ])
-
-    by : (c : Bool) → List·Memᴰ j (cond c ks (ks ++ (k ∷ []))) → List·Memᴰ j ks ⊎ (j ≡ k)
-    by true n = inl n
-    by false n = end (List·Memᴰ·append-cases ks n)
-
-module _ (σ : ℕ → ℕ → ℕ) (U : List Key) (ap-U : Apart σ U) where
-  notes-hat : (l ks : List Key) → ((j : Key) → List·Memᴰ j l → List·Memᴰ j U) → ((j : Key) → List·Memᴰ j ks → List·Memᴰ j U)
-      → foldl note (map (hat σ) ks) (map (hat σ) l) ≡ map (hat σ) (foldl note ks l)
-  notes-hat [] ks g h = refl
-  notes-hat (k ∷ l) ks g h =
-      ap (λ o. foldl note o (map (hat σ) l)) (note-hat σ U ap-U ks k (g k (List·Memᴰ·head refl)) h)
-      ∙ notes-hat l (note ks k) (λ j m. g j (List·Memᴰ·tail m)) (λ j m. by j (note-in ks k m))
-    where
-      by : (j : Key) → List·Memᴰ j ks ⊎ (j ≡ k) → List·Memᴰ j U
-      by j (inl m) = h j m
-      by j (inr e) = Memᴰ·cast e (g k (List·Memᴰ·head refl))
-
-pub registers-hat : (σ : ℕ → ℕ → ℕ) (l : List (Thread Tags)) → Apart σ (held-by l) → registers (rename σ l) ≡ map (hat σ) (registers l)
-unfolding registers
-registers-hat σ l a = ap (λ ks. foldl note [] ks) (held-renamed σ l) ∙ notes-hat σ (held-by l) a (held-by l) [] (λ j m. m) (λ j m. absurd (elim m [ ]))
-
--- ---- the registers are the keys held, each once
+-- ---- the registers are the keys held, each once, where it first appears
 
 known→mem : (k : Key) (ks : List Key) → known k ks ≡ true → List·Memᴰ k ks
 known→mem k [] e = let z : _≡_ {A = ℕ} 0 1 = cc in absurd (omega arith)
@@ -120,51 +86,57 @@ known→mem k (j ∷ ks) e = by (λ f. known→mem k ks f) (is k j) refl e
     by ih true p q = List·Memᴰ·head (is→eq k j p)
     by ih false p q = List·Memᴰ·tail (ih q)
 
-note-keeps : (ks : List Key) (k : Key) {j : Key} → List·Memᴰ j ks → List·Memᴰ j (note ks k)
-note-keeps ks k {j} m = by (known k ks)
+mem→known : {k : Key} {ks : List Key} → List·Memᴰ k ks → known k ks ≡ true
+mem→known {k} (List·Memᴰ·head {x = j} e) = rw (eq→is e)
+mem→known {k} (List·Memᴰ·tail {x = j} {xs = ks} m) = by (is k j) (mem→known m)
   where
-    by : (c : Bool) → List·Memᴰ j (cond c ks (ks ++ (k ∷ [])))
-    by true = m
-    by false = Memᴰ·append-left (k ∷ []) m
+    by : (c : Bool) → known k ks ≡ true → cond c true (known k ks) ≡ true
+    by true e = refl
+    by false e = e
 
-note-has : (ks : List Key) (k : Key) → List·Memᴰ k (note ks k)
-note-has ks k = by (known k ks) refl
+pub by-key : Keyed {S = Key} (λ k. k) (λ k l. List·Memᴰ k l) note
+by-key =
+    record {
+      none = λ m. elim m [ ];
+      split = λ m. List·Memᴰ·cases-cons m;
+      here = λ e. List·Memᴰ·head e;
+      there = λ m. List·Memᴰ·tail m;
+      decide = λ k ks. by k ks (Bool-cases (known k ks));
+      known = λ ks k m. rw (mem→known m);
+      new = λ ks k h. rest k ks h (Bool-cases (known k ks));
+    }
   where
-    by : (c : Bool) → known k ks ≡ c → List·Memᴰ k (cond c ks (ks ++ (k ∷ [])))
-    by true e = known→mem k ks e
-    by false e = Memᴰ·append-right ks (List·Memᴰ·head refl)
+    by : (k : Key) (ks : List Key) → (known k ks ≡ true) ⊎ (known k ks ≡ false) → List·Memᴰ k ks ⊎ (¬ List·Memᴰ k ks)
+    by k ks (inl e) = inl (known→mem k ks e)
+    by k ks (inr e) = inr (λ m. let f = mem→known m in let z : _≡_ {A = ℕ} 0 1 = cc in omega arith)
 
-notes-keep : (l ks : List Key) {j : Key} → List·Memᴰ j ks → List·Memᴰ j (foldl note ks l)
-notes-keep [] ks m = m
-notes-keep (k ∷ l) ks m = notes-keep l (note ks k) (note-keeps ks k m)
+    rest : (k : Key) (ks : List Key) → (¬ List·Memᴰ k ks) → (known k ks ≡ true) ⊎ (known k ks ≡ false) → note ks k ≡ ks ++ (k ∷ [])
+    rest k ks h (inl e) = absurd (h (known→mem k ks e))
+    rest k ks h (inr e) = rw e
 
-notes-have : (l ks : List Key) {j : Key} → List·Memᴰ j l → List·Memᴰ j (foldl note ks l)
-notes-have [] ks m = absurd (elim m [ ])
-notes-have (k ∷ l) ks {j} m = by (λ n. notes-have l (note ks k) n) (List·Memᴰ·cases-cons m)
-  where
-    by : (List·Memᴰ j l → List·Memᴰ j (foldl note (note ks k) l)) → (j ≡ k) ⊎ List·Memᴰ j l → List·Memᴰ j (foldl note (note ks k) l)
-    by ih (inl e) = Memᴰ·cast e (notes-keep l (note ks k) (note-has ks k))
-    by ih (inr n) = ih n
+module _ (σ : ℕ → ℕ → ℕ) (U : List Key) (ap-U : Apart σ U) where
+  notes-hat : (l ks : List Key) → ((j : Key) → List·Memᴰ j l → List·Memᴰ j U) → ((j : Key) → List·Memᴰ j ks → List·Memᴰ j U)
+      → foldl note (map (hat σ) ks) (map (hat σ) l) ≡ map (hat σ) (foldl note ks l)
+  notes-hat [] ks g h = refl
+  notes-hat (k ∷ l) ks g h =
+      ap (λ o. foldl note o (map (hat σ) l)) (note-hat σ U ap-U ks k (g k (List·Memᴰ·head refl)) h)
+      ∙ notes-hat l (note ks k) (λ j m. g j (List·Memᴰ·tail m)) (λ j m. by j (put-in by-key ks k m))
+    where
+      by : (j : Key) → List·Memᴰ j ks ⊎ (j ≡ k) → List·Memᴰ j U
+      by j (inl m) = h j m
+      by j (inr e) = Memᴰ·cast e (g k (List·Memᴰ·head refl))
 
-notes-in : (l ks : List Key) {j : Key} → List·Memᴰ j (foldl note ks l) → List·Memᴰ j ks ⊎ List·Memᴰ j l
-notes-in [] ks m = inl m
-notes-in (k ∷ l) ks {j} m = by (notes-in l (note ks k) m)
-  where
-    noted : List·Memᴰ j ks ⊎ (j ≡ k) → List·Memᴰ j ks ⊎ List·Memᴰ j (k ∷ l)
-    noted (inl n) = inl n
-    noted (inr e) = inr (List·Memᴰ·head e)
-
-    by : List·Memᴰ j (note ks k) ⊎ List·Memᴰ j l → List·Memᴰ j ks ⊎ List·Memᴰ j (k ∷ l)
-    by (inl n) = noted (note-in ks k n)
-    by (inr n) = inr (List·Memᴰ·tail n)
+pub registers-hat : (σ : ℕ → ℕ → ℕ) (l : List (Thread Tags)) → Apart σ (held-by l) → registers (rename σ l) ≡ map (hat σ) (registers l)
+unfolding registers
+registers-hat σ l a = ap (λ ks. foldl note [] ks) (held-renamed σ l) ∙ notes-hat σ (held-by l) a (held-by l) [] (λ j m. m) (λ j m. absurd (elim m [ ]))
 
 pub held-registers : (l : List (Thread Tags)) {j : Key} → List·Memᴰ j (held-by l) → List·Memᴰ j (registers l)
 unfolding registers
-held-registers l m = notes-have (held-by l) [] m
+held-registers l m = gather-has by-key (held-by l) [] m
 
 pub registers-held : (l : List (Thread Tags)) {j : Key} → List·Memᴰ j (registers l) → List·Memᴰ j (held-by l)
 unfolding registers
-registers-held l {j} m = by (notes-in (held-by l) [] m)
+registers-held l {j} m = by (gather-in by-key (held-by l) [] m)
   where
     by : List·Memᴰ j [] ⊎ List·Memᴰ j (held-by l) → List·Memᴰ j (held-by l)
     by (inl n) = absurd (elim n [ ])

@@ -1,18 +1,20 @@
 -- `every` lists the earlier path first. Assumes nothing.
-use mathlib.Core.Path.{_≡_, refl, sym, ap, _∙_, subst}
+use mathlib.Core.Path.{_≡_, refl, ap, _∙_}
 use mathlib.Core.Logic.{_⊎_, inl, inr}
 use mathlib.Core.Bool.{Bool, true, false, _&&_, cond}
-use mathlib.Core.List.{List, [], _∷_, _++_, append-nil, append-assoc, List·Memᴰ, List·Memᴰ·head, List·Memᴰ·tail, List·Memᴰ·cases-cons, List·Memᴰ·append-cases, List·Memᴰ·eq-of-singleton}
+use mathlib.Core.List.{List, [], _∷_, _++_, append-assoc, List·Memᴰ, List·Memᴰ·eq-of-singleton}
 use Prim.Native.Nat.{ℕ, zero, suc}
 use native.Mathlib.Omega.{arith}
 use lib.Dec.{leb, eqb}
 use lib.ListN.{length}
 use lib.Seq.{append-snoc}
 use Rattle.net.specs.Rec.{Rec, range, mask, fork, tag, end, Net, rec, bit}
-use Rattle.paths.specs.Ways.{Turn, first, second, mark, Move, eat, turn, Step, by-range, by-mask, by-first, by-second, by-tag, Way, stay, go, eaten, Admissible, Earlier, parts, later}
+use Rattle.paths.specs.Ways.{Turn, first, second, Move, eat, turn, Step, by-range, by-mask, by-first, by-second, by-tag, Way, stay, go, Earlier, parts, later}
 use Rattle.ground.specs.Lists.{each}
-use Rattle.paths.specs.Search.{Thread, ons, paths}
+use Rattle.paths.specs.Search.{paths}
 use Rattle.paths.specs.Situation.{quiet, bite, follow, on-quiet, on-byte, every}
+pub use Rattle.paths.proofs.Common.{Ordered}
+use Rattle.paths.proofs.Common.{ordered-each}
 use Rattle.paths.proofs.Member.{mem→has, not→hasnt, mem-or-not}
 use Rattle.paths.proofs.Heart.{each-each}
 use Rattle.paths.proofs.Faithful.{onto, Trail, Quiet, each-cases, follow-cases, all-at, QuietStep, quiet-steps, Bite, bites, Reached, sound, every-sound}
@@ -43,30 +45,6 @@ bitten : {p q : List Move} (b : ℕ) (x y : List Move) → Before p q → Parted
 bitten b x y (apart d) = further d (eat b ∷ x) (eat b ∷ y)
 bitten {p} {q} b x y (stops u v e) =
     rw (e, append-assoc p (turn u ∷ v) (eat b ∷ y)) (under p eats)
-
--- ---- lists in order
-
-module _ {B : Type 0} (R : B → B → Type 0) where
-  abbrev pub Ordered : List B → Type 0
-  Ordered [] = Unit {0}
-  Ordered (s ∷ l) = ((t : B) → List·Memᴰ t l → R s t) × Ordered l
-
-  ordered-append : (l k : List B) → Ordered l → Ordered k → ((s t : B) → List·Memᴰ s l → List·Memᴰ t k → R s t) → Ordered (l ++ k)
-  ordered-append [] k o q c = q
-  ordered-append (s ∷ l) k o q c =
-      (λ t m. by t (List·Memᴰ·append-cases l m), ordered-append l k (o .1) q (λ a b m j. c a b (List·Memᴰ·tail m) j))
-    where
-      by : (t : B) → List·Memᴰ t l ⊎ List·Memᴰ t k → R s t
-      by t (inl m) = o .0 t m
-      by t (inr m) = c s t (List·Memᴰ·head refl) m
-
-ordered-each : {B C : Type 0} (R : B → B → Type 0) (Q : C → C → Type 0) (g : B → List C) (l : List B) → Ordered R l → ((s : B) → Ordered Q (g s))
-    → ((s t : B) → R s t → (a b : C) → List·Memᴰ a (g s) → List·Memᴰ b (g t) → Q a b) → Ordered Q (each g l)
-ordered-each R Q g [] o h c = tt
-ordered-each {B} {C} R Q g (s ∷ l) o h c = ordered-append Q (g s) (each g l) (h s) (ordered-each R Q g l (o .1) h c) cross
-  where
-    cross : (a b : C) → List·Memᴰ a (g s) → List·Memᴰ b (each g l) → Q a b
-    cross a b m k = let r = each-cases g l k in c s (r .0) (o .0 (r .0) (r .1)) a b m (r .2)
 
 -- ---- `every` is in order
 

@@ -1,5 +1,5 @@
 -- What a thread gathers does not steer the search: it may be gathered in one form or in another. Assumes nothing.
-use mathlib.Core.Path.{_≡_, refl, sym, ap, _∙_, subst}
+use mathlib.Core.Path.{_≡_, refl, sym, ap, _∙_}
 use mathlib.Core.Logic.{_⊎_, inl, inr}
 use mathlib.Core.Bool.{Bool, true, false, _&&_, cond}
 use mathlib.Core.List.{List, [], _∷_, _++_, foldl}
@@ -10,7 +10,7 @@ use lib.ListN.{length}
 use Rattle.net.specs.Rec.{Rec, range, mask, fork, tag, end, Net, rec, bit}
 use Rattle.paths.specs.Ways.{Turn, first, second, mark, Move, eat, turn}
 use Rattle.ground.specs.Lists.{each}
-use Rattle.paths.specs.Search.{choose, has, Thread, ons, visit}
+use Rattle.paths.specs.Search.{has, Thread, ons, visit}
 use Rattle.paths.specs.Situation.{quiet, bite, follow, on-quiet, on-byte, close, threads, ending, first-end}
 use Rattle.paths.proofs.Member.{Bool-cases}
 

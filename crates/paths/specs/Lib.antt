@@ -6,3 +6,4 @@ pub mod Numbering
 pub mod Equal
 pub mod Meaning
 pub mod Marks
+pub mod Limits

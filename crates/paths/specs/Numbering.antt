@@ -1,6 +1,6 @@
--- Document 01: situation 0 is that of the empty input; the others are numbered by the first input that reaches them, shorter first, then by byte values.
+-- Document 01: "Situation 0 is that of the empty input; the others are numbered by the first input that reaches them, shorter first, then by byte values."
 -- Over any states, a test for equal ones, and the bytes in order. Assumes nothing.
-use mathlib.Core.Bool.{Bool, true, false, _||_}
+use mathlib.Core.Bool.{Bool, false, _||_}
 use mathlib.Core.List.{List, [], _∷_, _++_, map, foldl}
 use Prim.Native.Nat.{ℕ, zero, suc}
 use lib.ListN.{take, drop}

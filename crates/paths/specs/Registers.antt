@@ -1,15 +1,16 @@
--- Document 01, "Situations": the records that a byte, or the end, can follow, with a register number for each place that is held. Assumes nothing.
+-- Document 01, "Situations": "Registers are numbered from 0 by first appearance, records in list order and tags ascending within a record." The list after
+-- some input, byte by byte, with a register number for each place that is held; the next one, and a run over a bank. Assumes nothing.
 use mathlib.Core.Bool.{Bool, true, false, _&&_, cond}
 use mathlib.Core.List.{List, [], _∷_, _++_, map, foldl}
 use mathlib.Core.Option.{Option, none, some}
-use Prim.Native.Nat.{ℕ, zero, suc, _+_}
+use Prim.Native.Nat.{ℕ, suc}
 use lib.Dec.{eqb, ltb}
 use lib.ListN.{length, getD, set}
 use Rattle.net.specs.Rec.{Rec, range, mask, fork, tag, end, Net, rec}
-use Rattle.paths.specs.Ways.{Turn, first, second, mark, Move, eat, turn}
+use Rattle.paths.specs.Ways.{first, second, mark, Move, eat, turn}
 use Rattle.ground.specs.Lists.{each}
-use Rattle.paths.specs.Search.{choose, Thread, paths, firsts}
-use Rattle.paths.specs.Situation.{on-quiet, on-byte, close}
+use Rattle.paths.specs.Search.{Thread}
+use Rattle.paths.specs.Situation.{on-byte, close}
 
 abbrev pub Tags : Type 0
 Tags = List (Option ℕ)
@@ -93,7 +94,7 @@ rename σ (s ∷ l) = record { on = s .on; had = renamed σ 0 (s .had) } ∷ ren
 unfoldable pub number : List (Thread Tags) → List (Thread Tags)
 number l = rename (λ t p. index (t, p) (registers l)) l
 
--- The situation after some input.
+-- The situation after some input, computed byte by byte; `Meaning.meant` defines it with no search (`Laws.situation-right`).
 unfoldable pub situation : Net → List ℕ → List (Thread Tags)
 situation A w = number (after A 0 (begin A) w)
 
@@ -107,7 +108,7 @@ next A b s = number (step A (length (registers s)) b s)
 unfoldable pub origins : Net → ℕ → List (Thread Tags) → List ℕ
 origins A b s = map (λ k. k .1) (registers (step A (length (registers s)) b s))
 
--- all sources are read before any target is written
+-- "One list reads all its sources before it writes."
 abbrev pub fetch : ℕ → ℕ → List ℕ → ℕ → ℕ
 fetch now count bank i = cond (ltb i count) (getD bank i 0) now
 

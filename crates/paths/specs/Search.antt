@@ -1,7 +1,7 @@
--- An ordered search, over any graph whose nodes are numbered: every path with no node twice, in order; the first of them to each node; and the
--- search with one set of marks that finds just those. Assumes nothing.
+-- An ordered search, over any graph whose nodes are numbered: every path with no node twice, in order; the first of them to each node ("each once, by its
+-- earliest path, earliest path first"); and the search with one set of marks that finds just those. Assumes nothing.
 use mathlib.Core.Bool.{Bool, true, false, _||_}
-use mathlib.Core.List.{List, [], _∷_, _++_, map, foldl}
+use mathlib.Core.List.{List, [], _∷_, _++_, foldl}
 use Prim.Native.Nat.{ℕ, zero, suc}
 use lib.Dec.{eqb}
 use Rattle.ground.specs.Lists.{each}

@@ -1,15 +1,15 @@
--- Document 01, "Situations": the threads after some input. `every` lists all admissible paths, the earlier first; `threads` is what the builder
--- does, one search with shared marks after each byte. Both for anything, X, that a thread gathers by its moves. Assumes nothing.
-use mathlib.Core.Bool.{Bool, true, false, _&&_, cond}
-use mathlib.Core.List.{List, [], _∷_, _++_, foldl}
+-- Document 01, "Situations": "RANGE, MASK and END records that admissible paths stand on". `every` lists all admissible paths, the earlier first; `threads`
+-- is one search with shared marks after each byte. Both for anything, X, that a thread gathers by its moves. Assumes nothing.
+use mathlib.Core.Bool.{_&&_, cond}
+use mathlib.Core.List.{List, [], _∷_, foldl}
 use mathlib.Core.Option.{Option, none, some}
-use Prim.Native.Nat.{ℕ, zero, suc}
+use Prim.Native.Nat.{ℕ, suc}
 use lib.Dec.{leb, eqb}
 use lib.ListN.{length}
 use Rattle.net.specs.Rec.{Rec, range, mask, fork, tag, end, Net, rec, bit}
-use Rattle.paths.specs.Ways.{Turn, first, second, mark, Move, eat, turn, Held, empty-handed, act}
+use Rattle.paths.specs.Ways.{first, second, mark, Move, eat, turn, Held, empty-handed, act}
 use Rattle.ground.specs.Lists.{each}
-use Rattle.paths.specs.Search.{Thread, firsts, paths, visit}
+use Rattle.paths.specs.Search.{Thread, paths, visit}
 
 -- the moves of a record that consume nothing, `first` before `second`, and where they lead
 abbrev pub quiet : Rec → List (Move × ℕ)
@@ -51,7 +51,7 @@ module _ {X : Type 0} (f : Move → X → X) where
     threads [] ss = close ss
     threads (b ∷ w) ss = threads w (each (on-byte b) (close ss))
 
--- the first thread that stands on an END: its answer, and what it holds
+-- "the answer is the first END in the list": of the first thread that stands on an END its answer, and what it holds
 abbrev pub ending : {X : Type 0} → Rec → X → Option (ℕ × X) → Option (ℕ × X)
 ending (range lo hi n) x o = o
 ending (mask bits n) x o = o

@@ -1,17 +1,17 @@
--- Document 01, "Paths and their order". A path through an automaton, which paths are admissible, which of two is the
--- earlier, and the answer of a record. Nothing here computes a table or a situation. Assumes nothing.
+-- Document 01, "Paths and their order": "A path starts at record 0, place 0, all tags -1." Which paths are admissible, which of two is the earlier, and the
+-- answer of a line. Nothing here computes a table or a situation. Assumes nothing.
 use mathlib.Core.Path.{_≡_}
-use mathlib.Core.Bool.{Bool, true, false}
-use mathlib.Core.List.{List, [], _∷_, _++_, List·Memᴰ}
+use mathlib.Core.List.{List, [], _∷_, List·Memᴰ}
 use mathlib.Core.Logic.{_⊎_}
 use mathlib.Core.Option.{Option, none, some}
-use Prim.Native.Nat.{ℕ, zero, suc, _+_, _≤_}
+use Prim.Native.Nat.{ℕ, _+_, _≤_}
 use lib.ListN.{set}
-use Rattle.net.specs.Rec.{Rec, range, mask, fork, tag, end, Net, rec, bit}
+use Rattle.net.specs.Rec.{range, mask, fork, tag, end, Net, rec, bit}
 
 -- ---- paths
 
--- What a path does at one record: it consumes a byte; or, with no byte, it takes one side of a FORK or stores the place under a tag.
+-- "RANGE and MASK consume one allowed byte. FORK goes either way. TAG stores the place". What a path does at one record: it consumes a byte; or it turns,
+-- with no byte.
 pub data Turn : Type 0 where
   first second : Turn
   mark : (t : ℕ) → Turn
@@ -44,20 +44,21 @@ abbrev pub since : Move → ℕ → List ℕ → List ℕ
 since (eat b) r seen = []
 since (turn q) r seen = r ∷ seen
 
--- Admissible: between two consumed bytes (also before the first and after the last) it stands on no record twice.
+-- "A path is admissible if between two consumed bytes (also before the first and after the last) it stands on no record twice."
 -- `seen` are those that it stood on since the last byte, before r.
 abbrev pub Admissible : {A : Net} {r : ℕ} {ms : List Move} {last : ℕ} → List ℕ → Way A r ms last → Type 0
 Admissible {r = r} seen stay = ¬ List·Memᴰ r seen
 Admissible {r = r} seen (go {m = m} s p) = (¬ List·Memᴰ r seen) × Admissible (since m r seen) p
 
--- Of two paths the earlier takes `first` at the fork where they part.
+-- "the earlier takes "first" at the fork where they part"
 pub data Earlier : List Move → List Move → Type 0 where
   parts : {p q : List Move} → Earlier (turn first ∷ p) (turn second ∷ q)
   later : {m : Move} {p q : List Move} → Earlier p q → Earlier (m ∷ p) (m ∷ q)
 
 -- ---- places and tags
 
--- What a path has in hand: the place, which is the number of bytes consumed so far, and for each of the eight tags the place stored last, if any.
+-- "the place, the number of bytes consumed so far; a later use overwrites". What a path has in hand: the place, and for each of the eight tags the place
+-- stored last; none is document 01's -1.
 pub record Held : Type 0 where
   pub place : ℕ
   pub tags : List (Option ℕ)
@@ -77,7 +78,15 @@ held (m ∷ ms) h = held ms (act m h)
 
 -- ---- the answer
 
--- An admissible path that consumes the whole of w and then stands on an END.
+-- "A path accepts when it stands on END with the whole record consumed": any path, admissible or not.
+pub record Accepted (A : Net) (w : List ℕ) (answer : ℕ) : Type 0 where
+  pub moves : List Move
+  pub last : ℕ
+  pub path : Way A 0 moves last
+  pub whole : eaten moves ≡ w
+  pub at-end : rec A last ≡ end answer
+
+-- An admissible one, of the moves ms.
 pub record Accepts (A : Net) (w : List ℕ) (ms : List Move) (answer : ℕ) : Type 0 where
   pub last : ℕ
   pub path : Way A 0 ms last
@@ -85,7 +94,7 @@ pub record Accepts (A : Net) (w : List ℕ) (ms : List Move) (answer : ℕ) : Ty
   pub whole : eaten ms ≡ w
   pub at-end : rec A last ≡ end answer
 
--- The answer of the record w: END and tags of the earliest admissible accepting path.
+-- "Of two admissible accepting paths, the earlier [..]. That path's END and tags are the answer." The answer of the line w.
 pub record Answer (A : Net) (w : List ℕ) (answer : ℕ) (tags : List (Option ℕ)) : Type 0 where
   pub moves : List Move
   pub accepts : Accepts A w moves answer
