@@ -18,7 +18,7 @@ use Rattle.explore.specs.Slots.{slot, slots, Placed}
 use Rattle.explore.specs.Explore.{Kept}
 use Rattle.explore.specs.declared.Numbered.{Numbered}
 use Rattle.explore.proofs.Exploration.{slots-length, slots-at}
-use Rattle.explore.proofs.Refusals.{found-at}
+use Rattle.explore.proofs.Closed.{found-at}
 use Rattle.build.specs.Card.{State, commands}
 use Rattle.build.specs.Writing.{orders-of, Closed, Does}
 use Rattle.build.specs.declared.Orders.{Orders}

@@ -3,3 +3,4 @@ pub mod Writing
 pub mod Deeds
 pub mod Joining
 pub mod Tables
+pub mod Verdict

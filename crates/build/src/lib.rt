@@ -2,19 +2,21 @@ ghost use mathlib.Core.Path.{_≡_};
 ghost use mathlib.Core.Bool.{Bool, true, false};
 ghost use mathlib.Core.List.{List, [], _∷_, _++_, map};
 ghost use Prim.Native.Nat.{ℕ, _+_, _-_, _*_, _<_, _≤_};
-ghost use lib.ListN.{length, getD, set};
+ghost use lib.ListN.{length, getD, set, replicate};
 ghost use Rattle.ground.specs.Lists.{each};
 ghost use Rattle.paths.specs.Equal.{same-list};
 ghost use Rattle.paths.specs.Registers.{registers, situation};
 ghost use Rattle.card.specs.Table.{put, cmd-bytes, row-bytes, sit-bytes, bytesOf};
 ghost use Rattle.explore.specs.Lists.{span};
-ghost use Rattle.explore.specs.Items.{net, Formed};
+ghost use Rattle.net.specs.Items.{net-at};
+ghost use Rattle.explore.specs.Items.{Formed};
 ghost use Rattle.explore.specs.States.{threads-of, Fit};
 ghost use Rattle.explore.specs.Slots.{slot, slots};
 ghost use Rattle.explore.specs.Keys.{keys-of};
 ghost use Rattle.explore.specs.Explore.{Kept};
 ghost use Rattle.build.specs.Card.{same-cmd, commands, most, sit-of, card-of};
 ghost use Rattle.build.specs.Writing.{order-of, orders-of, command, row-of, Wrote, Closed, Does, alike-deeds, Given, Goes-on, rows-bytes, sits-bytes, Ends, All, Needs};
+ghost use Rattle.build.specs.Build.{refusal, Makes, Attempts, Builds};
 use explore::Closing;
 use explore::Found;
 use explore::Regs;
@@ -211,7 +213,7 @@ pub fn same_deed(a: Deed, b: Deed) -> bool
 // What byte b does in the situation s, which has `regs` registers.
 pub fn byte_deed(
     file: &[u8],
-    offs: &[u16],
+    offs: &[usize],
     work: &[u8],
     s: Found,
     regs: u8,
@@ -221,8 +223,8 @@ pub fn byte_deed(
     requires { ⌜ Formed (now file) (now offs) ⌝ }
     requires { ⌜ Kept (length (now offs)) (now work) count ⌝ }
     requires { ⌜ Fit (length (now offs)) s × ((regs ≡ length (registers (threads-of s))) × (regs ≤ 64)) ⌝ }
-    requires { ⌜ Closed (net (now file) (now offs)) (slots (now work) 0 count) (threads-of s) b ⌝ }
-    ensures { λ a. ⌜ Does (net (now (file .entry)) (now (offs .entry))) (slots (now (work .entry)) 0 count) (threads-of s) b a ⌝ }
+    requires { ⌜ Closed (net-at (now file) (now offs)) (slots (now work) 0 count) (threads-of s) b ⌝ }
+    ensures { λ a. ⌜ Does (net-at (now (file .entry)) (now (offs .entry))) (slots (now (work .entry)) 0 count) (threads-of s) b a ⌝ }
 {
     let t = explore::next_of(file, offs, regs, s, b);
     let q = t.sit;
@@ -244,7 +246,7 @@ pub struct Open {
 // Byte b joins the open row, or closes it and opens the next.
 pub fn row_step(
     file: &[u8],
-    offs: &[u16],
+    offs: &[usize],
     work: &[u8],
     out: &mut [u8],
     s: Found,
@@ -254,10 +256,10 @@ pub fn row_step(
     b: u8,
 ) -> Open
     requires { ⌜ Formed (now file) (now offs) ⌝ }
-    requires { ⌜ Given (net (now file) (now offs)) (length (now offs)) (now work) count s regs ⌝ }
+    requires { ⌜ Given (net-at (now file) (now offs)) (length (now offs)) (now work) count s regs ⌝ }
     requires { ⌜ (0 < b) × (q .at + 196 ≤ 8000000) ⌝ }
-    requires { ⌜ Does (net (now file) (now offs)) (slots (now work) 0 count) (threads-of s) (b - 1) (q .deed) ⌝ }
-    ensures { λ a. ⌜ Goes-on (net (now (file .entry)) (now (offs .entry))) (slots (now (work .entry)) 0 count) (threads-of s) (now (out .entry)) (now (out .exit)) q b a ⌝ }
+    requires { ⌜ Does (net-at (now file) (now offs)) (slots (now work) 0 count) (threads-of s) (b - 1) (q .deed) ⌝ }
+    ensures { λ a. ⌜ Goes-on (net-at (now (file .entry)) (now (offs .entry))) (slots (now (work .entry)) 0 count) (threads-of s) (now (out .entry)) (now (out .exit)) q b a ⌝ }
 {
     if !explore::fresh(file, offs, b) {
         return q;
@@ -278,7 +280,7 @@ pub fn row_step(
 // All rows of the situation s.
 pub fn emit_rows(
     file: &[u8],
-    offs: &[u16],
+    offs: &[usize],
     work: &[u8],
     out: &mut [u8],
     s: Found,
@@ -287,9 +289,9 @@ pub fn emit_rows(
     at: usize,
 ) -> usize
     requires { ⌜ Formed (now file) (now offs) ⌝ }
-    requires { ⌜ Given (net (now file) (now offs)) (length (now offs)) (now work) count s regs ⌝ }
+    requires { ⌜ Given (net-at (now file) (now offs)) (length (now offs)) (now work) count s regs ⌝ }
     requires { ⌜ at + 50176 ≤ 8000000 ⌝ }
-    ensures { λ r. ⌜ Wrote (now (out .entry)) (now (out .exit)) at (rows-bytes (net (now (file .entry)) (now (offs .entry))) (slots (now (work .entry)) 0 count) (threads-of s)) r × (r ≤ at + 50176) ⌝ }
+    ensures { λ r. ⌜ Wrote (now (out .entry)) (now (out .exit)) at (rows-bytes (net-at (now (file .entry)) (now (offs .entry))) (slots (now (work .entry)) 0 count) (threads-of s)) r × (r ≤ at + 50176) ⌝ }
 {
     let first = byte_deed(file, offs, work, s, regs, count, 0);
     let mut q = Open {
@@ -314,10 +316,10 @@ pub struct Ending {
     pub had: [u8; 8],
 }
 
-pub fn ending_of(file: &[u8], offs: &[u16], s: Found) -> Ending
+pub fn ending_of(file: &[u8], offs: &[usize], s: Found) -> Ending
     requires { ⌜ Formed (now file) (now offs) ⌝ }
     requires { ⌜ Fit (length (now offs)) s ⌝ }
-    ensures { λ a. ⌜ Ends (net (now (file .entry)) (now (offs .entry))) (threads-of s) a ⌝ }
+    ensures { λ a. ⌜ Ends (net-at (now (file .entry)) (now (offs .entry))) (threads-of s) a ⌝ }
 {
     let n = s.n;
     let mut i: usize = 0;
@@ -350,7 +352,7 @@ pub fn emit_fields(out: &mut [u8], at: usize, e: Ending) -> usize
 // Situation i: its SITUATION item and its rows.
 pub fn emit_sit(
     file: &[u8],
-    offs: &[u16],
+    offs: &[usize],
     work: &[u8],
     out: &mut [u8],
     i: usize,
@@ -358,9 +360,9 @@ pub fn emit_sit(
     at: usize,
 ) -> usize
     requires { ⌜ Formed (now file) (now offs) ⌝ }
-    requires { ⌜ All (net (now file) (now offs)) (length (now offs)) (now work) count × (i < count) ⌝ }
+    requires { ⌜ All (net-at (now file) (now offs)) (length (now offs)) (now work) count × (i < count) ⌝ }
     requires { ⌜ at + 50186 ≤ 8000000 ⌝ }
-    ensures { λ r. ⌜ Wrote (now (out .entry)) (now (out .exit)) at (sit-bytes (sit-of (net (now (file .entry)) (now (offs .entry))) (slots (now (work .entry)) 0 count) (slot (now (work .entry)) i))) r × (r ≤ at + 50186) ⌝ }
+    ensures { λ r. ⌜ Wrote (now (out .entry)) (now (out .exit)) at (sit-bytes (sit-of (net-at (now (file .entry)) (now (offs .entry))) (slots (now (work .entry)) 0 count) (slot (now (work .entry)) i))) r × (r ≤ at + 50186) ⌝ }
 {
     let s = explore::load(work, i);
     let regs = work[578 * i + 1];
@@ -373,16 +375,16 @@ pub fn emit_sit(
 
 pub fn emit_sits(
     file: &[u8],
-    offs: &[u16],
+    offs: &[usize],
     work: &[u8],
     out: &mut [u8],
     count: usize,
     at: usize,
 ) -> usize
     requires { ⌜ Formed (now file) (now offs) ⌝ }
-    requires { ⌜ All (net (now file) (now offs)) (length (now offs)) (now work) count ⌝ }
+    requires { ⌜ All (net-at (now file) (now offs)) (length (now offs)) (now work) count ⌝ }
     requires { ⌜ at ≤ 200 ⌝ }
-    ensures { λ r. ⌜ Wrote (now (out .entry)) (now (out .exit)) at (sits-bytes (net (now (file .entry)) (now (offs .entry))) (slots (now (work .entry)) 0 count) (slots (now (work .entry)) 0 count)) r × (r ≤ 5000000) ⌝ }
+    ensures { λ r. ⌜ Wrote (now (out .entry)) (now (out .exit)) at (sits-bytes (net-at (now (file .entry)) (now (offs .entry))) (slots (now (work .entry)) 0 count) (slots (now (work .entry)) 0 count)) r × (r ≤ 5000000) ⌝ }
 {
     let mut p = at;
     let mut i: usize = 0;
@@ -441,20 +443,104 @@ pub fn most_of(work: &[u8], count: usize) -> u8
 // The whole table from the situations in the work memory, as far as the output has room, and its length.
 pub fn emit_table(
     file: &[u8],
-    offs: &[u16],
+    offs: &[usize],
     work: &[u8],
     out: &mut [u8],
     tags: u8,
     count: usize,
 ) -> usize
     requires { ⌜ Formed (now file) (now offs) ⌝ }
-    requires { ⌜ All (net (now file) (now offs)) (length (now offs)) (now work) count ⌝ }
-    requires { ⌜ (0 < count) × (slot (now work) 0 ≡ situation (net (now file) (now offs)) []) ⌝ }
-    ensures { λ r. ⌜ Wrote (now (out .entry)) (now (out .exit)) 0 (bytesOf (card-of tags (net (now (file .entry)) (now (offs .entry))) (slots (now (work .entry)) 0 count))) r × (r ≤ 5000000) ⌝ }
+    requires { ⌜ All (net-at (now file) (now offs)) (length (now offs)) (now work) count ⌝ }
+    requires { ⌜ (0 < count) × (slot (now work) 0 ≡ situation (net-at (now file) (now offs)) []) ⌝ }
+    ensures { λ r. ⌜ Wrote (now (out .entry)) (now (out .exit)) 0 (bytesOf (card-of tags (net-at (now (file .entry)) (now (offs .entry))) (slots (now (work .entry)) 0 count))) r × (r ≤ 5000000) ⌝ }
 {
     let m = most_of(work, count);
     let p = emit_head(out, tags, m, count as u8);
     let n = work[1];
     let q = emit_start(out, p, n);
     emit_sits(file, offs, work, out, count, q)
+}
+
+// ---- the whole build
+
+// The answer; and where it is 0 the table's length, its situations and its registers.
+pub struct Built {
+    pub code: u8,
+    pub length: usize,
+    pub situations: usize,
+    pub registers: usize,
+}
+
+fn refuse(code: u8) -> Built
+    ensures { λ a. ⌜ a ≡ refusal code ⌝ }
+{
+    Built {
+        code,
+        length: 0,
+        situations: 0,
+        registers: 0,
+    }
+}
+
+// The table of a legal file, whose records stand at `offs`. The table is first written to nowhere, for its length.
+pub fn make(file: &[u8], offs: &[usize], tags: u8, work: &mut [u8], out: &mut [u8]) -> Built
+    requires { ⌜ Formed (now file) (now offs) × (0 < length (now offs)) ⌝ }
+    requires { ⌜ 65536 ≤ length (now work) ⌝ }
+    ensures size { λ _. ⌜ length (now (work .exit)) ≡ length (now (work .entry)) ⌝ }
+    ensures { λ a. ⌜ Makes tags (net-at (now (file .entry)) (now (offs .entry))) (now (out .entry)) (now (out .exit)) a ⌝ }
+{
+    let t = explore::explore(file, offs, work);
+    if t.answer != 0 {
+        return refuse(t.answer);
+    }
+    let n = t.count;
+    let mut nowhere = [0u8; 1];
+    let length = emit_table(file, offs, work, &mut nowhere, tags, n);
+    if out.len() < length {
+        return refuse(12);
+    }
+    emit_table(file, offs, work, out, tags, n);
+    let m = most_of(work, n);
+    Built {
+        code: 0,
+        length,
+        situations: n,
+        registers: m as usize,
+    }
+}
+
+// All but the clearing of the work memory.
+pub fn attempt(file: &[u8], work: &mut [u8], out: &mut [u8]) -> Built
+    ensures size { λ _. ⌜ length (now (work .exit)) ≡ length (now (work .entry)) ⌝ }
+    ensures { λ a. ⌜ Attempts (now (file .entry)) (length (now (work .entry))) (now (out .entry)) (now (out .exit)) a ⌝ }
+{
+    if work.len() < 65536 {
+        return refuse(9);
+    }
+    let p = net::places(file);
+    if p.code != 0 {
+        return refuse(p.code);
+    }
+    let n = p.count;
+    let at = p.at;
+    make(file, &at[0..n], p.tags, work, out)
+}
+
+pub fn clear(work: &mut [u8])
+    ensures { λ _. ⌜ now (work .exit) ≡ replicate (length (now (work .entry))) 0 ⌝ }
+{
+    let mut i: usize = 0;
+    while i < work.len() {
+        work[i] = 0;
+        i += 1;
+    }
+}
+
+// A table file of an automaton file. The work memory is at least 65,536 bytes, and all zero afterwards.
+pub fn build(file: &[u8], work: &mut [u8], out: &mut [u8]) -> Built
+    ensures { λ a. ⌜ Builds (now (file .entry)) (now (work .entry)) (now (out .entry)) (now (work .exit)) (now (out .exit)) a ⌝ }
+{
+    let a = attempt(file, work, out);
+    clear(work);
+    a
 }

@@ -2,7 +2,7 @@ use mathlib.Core.Path.{_≡_, refl, sym, ap, _∙_}
 use Prim.Native.Nat.{_≤_, _+_, _*_, _-_}
 use native.Mathlib.Omega.{arith}
 use borrow.Author.Needs.{needs}
-use Rattle.explore.specs.Items.{net}
+use Rattle.net.specs.Items.{net-at}
 use Rattle.explore.specs.States.{threads-of}
 use Rattle.explore.specs.Slots.{slots}
 use Rattle.build.specs.Writing.{Does, rows-bytes}
@@ -17,7 +17,7 @@ use Rattle.build.proofs.emit_row.Reads as emit-row-reads
 use Rattle.build.proofs.row_step.Reads as row-step-reads
 
 abbrev Inv-loop : tie.InvT-loop
-Inv-loop file offs work out₀ s regs count at q₀ b₀ out q b = (1 ≤ b) × ((b ≤ 256) × ((q .at + 196 ≤ at + 196 * b) × (Does (net file offs) (slots work 0 count) (threads-of s) (b - 1) (q .deed) × Left out₀ at (rows-bytes (net file offs) (slots work 0 count) (threads-of s)) out (q .at) (rest-rows (net file offs) (slots work 0 count) (threads-of s) q b))))
+Inv-loop file offs work out₀ s regs count at q₀ b₀ out q b = (1 ≤ b) × ((b ≤ 256) × ((q .at + 196 ≤ at + 196 * b) × (Does (net-at file offs) (slots work 0 count) (threads-of s) (b - 1) (q .deed) × Left out₀ at (rows-bytes (net-at file offs) (slots work 0 count) (threads-of s)) out (q .at) (rest-rows (net-at file offs) (slots work 0 count) (threads-of s) q b))))
 
 abbrev μ-loop : tie.MeasureT-loop
 μ-loop file offs work out₀ s regs count at q₀ b₀ out q b = 256 - b

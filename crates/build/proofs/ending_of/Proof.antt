@@ -4,7 +4,7 @@ use native.Mathlib.Omega.{arith}
 use borrow.Author.Needs.{needs}
 use lib.ListN.{drop}
 use Rattle.paths.specs.Situation.{first-end}
-use Rattle.explore.specs.Items.{net}
+use Rattle.net.specs.Items.{net-at}
 use Rattle.explore.specs.States.{threads-of}
 use Rattle.explore.proofs.Bits.{unmapped}
 use Rattle.explore.proofs.Biting.{below-at, fit-below}
@@ -16,7 +16,7 @@ use Rattle.build.proofs.ending_of.Lts as lts
 use Rattle.explore.proofs.end_at.Reads as end-at-reads
 
 abbrev Inv-loop : tie.InvT-loop
-Inv-loop file offs s n i₀ i = (i ≤ n) × (first-end (net file offs) (threads-of s) ≡ first-end (net file offs) (drop i (threads-of s)))
+Inv-loop file offs s n i₀ i = (i ≤ n) × (first-end (net-at file offs) (threads-of s) ≡ first-end (net-at file offs) (drop i (threads-of s)))
 
 abbrev μ-loop : tie.MeasureT-loop
 μ-loop file offs s n i₀ i = n - i
