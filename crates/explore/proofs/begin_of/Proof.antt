@@ -1,7 +1,7 @@
 use mathlib.Core.Path.{_≡_, refl, sym, ap, _∙_}
 use native.Mathlib.Omega.{arith}
 use Rattle.explore.proofs.Going.{new-ready, new-means}
-use Rattle.explore.proofs.Biting.{net-length}
+use Rattle.net.proofs.Inside.{net-length}
 use Rattle.explore.proofs.Naming.{begun, began, first-thread}
 use borrow.Author.Needs.{needs}
 use Rattle.explore.proofs.begin_of.Statement.{statement}

@@ -2,7 +2,9 @@ use mathlib.Core.Path.{_≡_, refl, sym, ap, _∙_}
 use native.Mathlib.Omega.{arith}
 use Rattle.paths.specs.Situation.{bite}
 use Rattle.explore.specs.Items.{lands}
-use Rattle.explore.proofs.Reading.{at-range, at-mask, rec-net, kind-in, range-in, mask-in}
+use Rattle.net.proofs.Reading.{at-range, at-mask}
+use Rattle.net.proofs.Inside.{rec-net}
+use Rattle.explore.proofs.Reading.{kind-in, range-in, mask-in}
 use Rattle.explore.proofs.Biting.{range-in-it, range-under, range-over, mask-in-it, mask-out, no-bite}
 use borrow.Author.Needs.{needs}
 use Rattle.explore.proofs.bite_at.Statement.{statement}
@@ -17,10 +19,6 @@ mul-at c = search needs
 -- src/lib.rt:159:14
 shared-slice-read-at : tie.Need-shared-slice-read-at
 shared-slice-read-at c = search needs
-
--- src/lib.rt:159:14
-cast-at : tie.Need-cast-at
-cast-at c = omega (arith, c .shared-slice-known .given (c .before .args .r))
 
 -- src/lib.rt:160:16
 shared-slice-read-kind : tie.Need-shared-slice-read-kind
@@ -108,7 +106,6 @@ bite-at-spec =
     (tie.spec
     mul-at
     shared-slice-read-at
-    cast-at
     shared-slice-read-kind
     add-lo
     shared-slice-read-lo

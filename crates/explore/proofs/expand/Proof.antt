@@ -9,10 +9,10 @@ use lib.ListN.{length}
 use Rattle.paths.specs.Registers.{next}
 use Rattle.paths.specs.Equal.{same-situation}
 use Rattle.paths.specs.Numbering.{once}
-use Rattle.explore.specs.Items.{net}
+use Rattle.net.specs.Items.{net-at}
 use Rattle.explore.specs.States.{threads-of}
 use Rattle.explore.specs.Slots.{slot, slots}
-use Rattle.explore.specs.Lists.{span}
+use Rattle.paths.specs.Limits.{bytes}
 use Rattle.explore.specs.Explore.{Kept}
 use Rattle.explore.proofs.Exploration.{once-none, expand-stop, expand-on, expanded, loaded-fit, loaded-count}
 use Rattle.explore.proofs.expand.Statement.{statement}
@@ -24,7 +24,7 @@ use Rattle.explore.proofs.load.Reads as load-reads
 use Rattle.explore.proofs.try_byte.Reads as try-byte-reads
 
 abbrev Inv-loop : tie.InvT-loop
-Inv-loop file offs work₀ i count s regs n₀ b₀ work n b = (b ≤ 256) × ((length work ≡ length work₀) × (Kept (length offs) work n × (slots work 0 n ≡ once same-situation (slots work₀ 0 count) (map (λ b. next (net file offs) b (threads-of s)) (span 0 b)))))
+Inv-loop file offs work₀ i count s regs n₀ b₀ work n b = (b ≤ 256) × ((length work ≡ length work₀) × (Kept (length offs) work n × (slots work 0 n ≡ once same-situation (slots work₀ 0 count) (map (λ b. next (net-at file offs) b (threads-of s)) (bytes 0 b)))))
 
 abbrev μ-loop : tie.MeasureT-loop
 μ-loop file offs work₀ i count s regs n₀ b₀ work n b = 256 - b

@@ -3,9 +3,10 @@ use Prim.Native.Nat.{ℕ, _≤_, _<_, _+_, _*_, _-_}
 use native.Mathlib.Omega.{arith}
 use borrow.Author.Needs.{needs}
 use lib.ListN.{length}
-use Rattle.explore.specs.Items.{net}
+use Rattle.net.specs.Items.{net-at}
 use Rattle.explore.specs.Slots.{slot, slots}
-use Rattle.explore.specs.Explore.{Kept, first}
+use Rattle.paths.specs.Limits.{first}
+use Rattle.explore.specs.Explore.{Kept}
 use Rattle.explore.proofs.Exploration.{start-over, start-kept, start-slots, explore-stop, explore-on, explored-all-of}
 use Rattle.explore.proofs.explore.Statement.{statement}
 use Rattle.explore.proofs.explore.Tie as tie
@@ -16,7 +17,7 @@ use Rattle.explore.proofs.expand.Reads as expand-reads
 use Rattle.explore.proofs.store.Reads as store-reads
 
 abbrev Inv-loop : tie.InvT-loop
-Inv-loop file offs work₀ k count₀ i₀ work count i = (i ≤ count) × ((length work ≡ length work₀) × (Kept (length offs) work count × (slots work 0 count ≡ first (net file offs) i)))
+Inv-loop file offs work₀ k count₀ i₀ work count i = (i ≤ count) × ((length work ≡ length work₀) × (Kept (length offs) work count × (slots work 0 count ≡ first (net-at file offs) i)))
 
 abbrev μ-loop : tie.MeasureT-loop
 μ-loop file offs work₀ k count₀ i₀ work count i = 96 - i

@@ -5,7 +5,8 @@ use borrow.Author.Needs.{needs}
 use lib.ListN.{length}
 use Rattle.net.specs.Rec.{rec}
 use Rattle.paths.specs.Situation.{bite}
-use Rattle.explore.specs.Items.{net, lands}
+use Rattle.net.specs.Items.{net-at}
+use Rattle.explore.specs.Items.{lands}
 use Rattle.explore.proofs.Classes.{alike-more}
 use Rattle.explore.proofs.fresh.Statement.{statement}
 use Rattle.explore.proofs.fresh.Tie as tie
@@ -14,7 +15,7 @@ use Rattle.explore.proofs.fresh.Lts as lts
 use Rattle.explore.proofs.bite_at.Reads as bite-at-reads
 
 abbrev Inv-loop : tie.InvT-loop
-Inv-loop file offs b r₀ r = (r ≤ length offs) × ((k : ℕ) → k < r → lands (bite b (rec (net file offs) k)) ≡ lands (bite (b - 1) (rec (net file offs) k)))
+Inv-loop file offs b r₀ r = (r ≤ length offs) × ((k : ℕ) → k < r → lands (bite b (rec (net-at file offs) k)) ≡ lands (bite (b - 1) (rec (net-at file offs) k)))
 
 abbrev μ-loop : tie.MeasureT-loop
 μ-loop file offs b r₀ r = length offs - r
@@ -61,7 +62,7 @@ loop-less c = omega arith
 
 -- src/lib.rt:561:5
 loop-again : tie.Need-loop-again Inv-loop μ-loop
-loop-again c = (omega arith, alike-more (net (c .before .before .before .before .before .before .before .before .args .file .now) (c .before .before .before .before .before .before .before .before .args .offs .now)) (c .before .before .before .before .before .before .before .before .args .b) (c .before .before .before .before .before .before .before .before .args .b - 1) (c .before .before .before .before .loop .r) (c .before .before .before .before .loop .inv .1) (sym (c .before .before .bite-at .ensures) ∙ c .if2 .left ∙ c .before .bite-at2 .ensures))
+loop-again c = (omega arith, alike-more (net-at (c .before .before .before .before .before .before .before .before .args .file .now) (c .before .before .before .before .before .before .before .before .args .offs .now)) (c .before .before .before .before .before .before .before .before .args .b) (c .before .before .before .before .before .before .before .before .args .b - 1) (c .before .before .before .before .loop .r) (c .before .before .before .before .loop .inv .1) (sym (c .before .before .bite-at .ensures) ∙ c .if2 .left ∙ c .before .bite-at2 .ensures))
 
 -- src/lib.rt:553:1
 returns-3 : tie.Need-returns-3 Inv-loop μ-loop

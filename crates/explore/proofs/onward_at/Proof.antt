@@ -1,7 +1,9 @@
 use mathlib.Core.Path.{_≡_, refl, sym, ap, _∙_}
 use native.Mathlib.Omega.{arith}
 use Rattle.explore.specs.Onward.{onward-of}
-use Rattle.explore.proofs.Reading.{at-fork, at-tag, at-stay, rec-net, kind-in, fork-in, tag-in}
+use Rattle.net.proofs.Reading.{at-fork, at-tag}
+use Rattle.explore.proofs.Reading.{at-stay, kind-in, fork-in, tag-in}
+use Rattle.net.proofs.Inside.{rec-net}
 use borrow.Author.Needs.{needs}
 use Rattle.explore.proofs.onward_at.Statement.{statement}
 use Rattle.explore.proofs.onward_at.Tie as tie
@@ -15,10 +17,6 @@ mul-at c = search needs
 -- src/lib.rt:112:14
 shared-slice-read-at : tie.Need-shared-slice-read-at
 shared-slice-read-at c = search needs
-
--- src/lib.rt:112:14
-cast-at : tie.Need-cast-at
-cast-at c = omega (arith, c .shared-slice-known .given (c .before .args .r))
 
 -- src/lib.rt:113:16
 shared-slice-read-kind : tie.Need-shared-slice-read-kind
@@ -74,7 +72,6 @@ onward-at-spec =
     (tie.spec
     mul-at
     shared-slice-read-at
-    cast-at
     shared-slice-read-kind
     add-t13
     shared-slice-read-t15

@@ -8,7 +8,7 @@ use Rattle.ground.specs.Lists.{each}
 use Rattle.paths.specs.Situation.{on-byte}
 use Rattle.paths.specs.Registers.{tagged}
 use Rattle.paths.specs.Marks.{Marked, marking}
-use Rattle.explore.specs.Items.{net}
+use Rattle.net.specs.Items.{net-at}
 use Rattle.explore.specs.States.{thread-of, threads-of, Ready, Means}
 use Rattle.explore.proofs.Bits.{unmapped}
 use Rattle.explore.proofs.Going.{new-ready, new-means}
@@ -21,7 +21,7 @@ use Rattle.explore.proofs.Found.new.Reads as new-reads
 use Rattle.explore.proofs.consume.Reads as consume-reads
 
 abbrev Inv-loop : tie.InvT-loop
-Inv-loop file offs stamp b s n f₀ i₀ f i = (i ≤ n) × (Ready (length offs) f × Means f (foldl (marking (tagged stamp) (net file offs) (suc (length (net file offs)))) (record { marks = []; list = [] }) (each (on-byte (tagged stamp) (net file offs) b) (map thread-of (take i (s .list))))))
+Inv-loop file offs stamp b s n f₀ i₀ f i = (i ≤ n) × (Ready (length offs) f × Means f (foldl (marking (tagged stamp) (net-at file offs) (suc (length (net-at file offs)))) (record { marks = []; list = [] }) (each (on-byte (tagged stamp) (net-at file offs) b) (map thread-of (take i (s .list))))))
 
 abbrev μ-loop : tie.MeasureT-loop
 μ-loop file offs stamp b s n f₀ i₀ f i = n - i

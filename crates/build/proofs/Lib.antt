@@ -1,0 +1,6 @@
+pub mod Commands
+pub mod Writing
+pub mod Deeds
+pub mod Joining
+pub mod Tables
+pub mod Verdict
