@@ -10,4 +10,5 @@ pub mod Emit
 pub mod EmitSteps
 pub mod EmitSets
 pub mod Top
+pub mod Legal
 pub mod Examples

@@ -5,11 +5,13 @@ use mathlib.Core.Bool.{Bool, true, false}
 use mathlib.Core.List.{List, [], _∷_, _++_}
 use native.Mathlib.Omega.{arith}
 use native.Mathlib.Numerals.{add-one}
-use native.Mathlib.Nat.{add-zero, pow-succ', pow-le-pow-right}
-use lib.ListN.{length, set, length-append}
-use Rattle.ground.specs.Bits.{flag}
+use native.Mathlib.Nat.{add-zero, pow-succ', pow-le-pow-right, not-suc-le-zero, le-of-suc-le-suc}
+use lib.ListN.{length, set, getD}
+use Rattle.ground.specs.Bits.{flag, bitOf}
 use Rattle.ground.specs.Lists.{Wrote}
+use Rattle.ground.proofs.Bits.{bit-zero, bit-suc}
 use Rattle.ground.proofs.Stores.{wrote-then}
+use Rattle.net.specs.Rec.{bit}
 use Rattle.pattern.specs.Sets.{octet, octets, maskOf}
 
 flag-small : (t : Bool) → flag t ≤ 1
@@ -82,3 +84,37 @@ mask-wrote f l m o k next e w =
     subst (λ (j : ℕ). Wrote l (set m (o + 33) next) o (o + 34) (18 ∷ (octets f j 0 ++ next ∷ []))) e
     (subst (λ (j : ℕ). Wrote l (set m (o + 33) next) o j (18 ∷ (ws ++ next ∷ []))) b
     (wrote-then (18 ∷ []) (ws ++ next ∷ []) (wrote-1 l o 18) (wrote-then ws (next ∷ []) (subst (λ (j : ℕ). Wrote (set l o 18) m (o + 1) j ws) a w) (wrote-1 m (o + 33) next))))
+
+-- bit t of an octet, and byte j of a body
+octet-bit : (f : ℕ → Bool) (k b t : ℕ) → t < k → bitOf (octet f k b) t ≡ flag (f (b + t))
+unfolding octet
+octet-bit f zero b t h = absurd (not-suc-le-zero h)
+octet-bit f (suc k) b zero h = bit-zero (flag (f b) + 2 * octet f k (b + 1)) ∙ low (f b) ∙ ap (λ x. flag (f x)) (sym (add-zero b))
+  where
+    low : (t : Bool) → (flag t + 2 * octet f k (b + 1)) % 2 ≡ flag t
+    low true = omega arith
+    low false = omega arith
+octet-bit f (suc k) b (suc t) h =
+    let e : b + 1 + t ≡ b + suc t = omega arith in
+    bit-suc (flag (f b) + 2 * octet f k (b + 1)) t ∙ ap (λ x. bitOf x t) (high (f b)) ∙ octet-bit f k (b + 1) t (le-of-suc-le-suc h) ∙ ap (λ x. flag (f x)) e
+  where
+    high : (t : Bool) → (flag t + 2 * octet f k (b + 1)) / 2 ≡ octet f k (b + 1)
+    high true = omega arith
+    high false = omega arith
+
+octets-at : (f : ℕ → Bool) (k b j : ℕ) → j < k → getD (octets f k b) j 0 ≡ octet f 8 (b + 8 * j)
+unfolding octets
+octets-at f zero b j h = absurd (not-suc-le-zero h)
+octets-at f (suc k) b zero h = ap (octet f 8) (sym (add-zero b))
+octets-at f (suc k) b (suc j) h =
+    let e : b + 8 + 8 * j ≡ b + 8 * suc j = omega arith in
+    octets-at f k (b + 8) j (le-of-suc-le-suc h) ∙ ap (octet f 8) e
+
+-- "byte b is allowed when bit b mod 8 (0 lowest) of body byte b div 8 is set": the MASK of a test allows the bytes that pass it
+pub mask-bit : (f : ℕ → Bool) (b : ℕ) → b < 256 → bit (maskOf f) b ≡ flag (f b)
+unfolding maskOf
+mask-bit f b h =
+    let q : b / 8 < 32 = omega arith in
+    let r : b % 8 < 8 = omega arith in
+    let e : 0 + 8 * (b / 8) + b % 8 ≡ b = omega arith in
+    ap (λ x. bitOf x (b % 8)) (octets-at f 32 0 (b / 8) q) ∙ octet-bit f 8 (0 + 8 * (b / 8)) (b % 8) r ∙ ap (λ x. flag (f x)) e
