@@ -4,3 +4,4 @@ pub mod Deeds
 pub mod Joining
 pub mod Tables
 pub mod Verdict
+pub mod Refuses

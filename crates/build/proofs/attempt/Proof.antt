@@ -1,3 +1,4 @@
+-- `build::attempt` meets its contract. Assumes nothing.
 use mathlib.Core.Path.{_≡_, refl, sym, ap, _∙_}
 use Prim.Native.Nat.{_-_}
 use native.Mathlib.Omega.{arith}
@@ -11,53 +12,41 @@ use Rattle.build.proofs.make.Reads as make-reads
 use Rattle.build.proofs.refuse.Reads as refuse-reads
 use Rattle.net.proofs.places.Reads as places-reads
 
--- src/lib.rt:518:9
 refuse-requires : tie.Need-refuse-requires
 refuse-requires c κs = search needs
 
--- src/lib.rt:518:9
 returns : tie.Need-returns
 returns c = (refl, small-room _ _ _ (c .before .if1 .taken) _ (c .refuse .ensures))
 
--- src/lib.rt:520:9
 places-requires : tie.Need-places-requires
 places-requires c κs = search needs
 
--- src/lib.rt:522:9
 refuse-requires-2 : tie.Need-refuse-requires-2
 refuse-requires-2 c κs = search needs
 
--- src/lib.rt:522:9
 returns-2 : tie.Need-returns-2
 returns-2 c = (refl, refused-net _ _ _ (c .before .before .before .before .if1 .left) _ (c .before .before .before .places .ensures .code) (c .before .if2 .taken) _ (c .refuse2 .ensures))
 
--- src/lib.rt:526:16
 sub-make : tie.Need-sub-make
 sub-make c = search needs
 
--- src/lib.rt:526:16
 part-make-start : tie.Need-part-make-start
 part-make-start c = search needs
 
--- src/lib.rt:526:16
 part-make-end : tie.Need-part-make-end
 part-make-end c = laid-room _ _ (c .before .before .before .before .places .ensures) (c .before .before .if2 .left)
 
--- src/lib.rt:526:5
 make-requires : tie.Need-make-requires
 make-requires c κs =
     let z : c .before .before .before .before .before .before .before .places .result .count - 0 ≡ c .before .before .before .before .before .before .before .places .result .count = omega arith in
     (laid-ready _ _ (c .before .before .before .before .before .before .before .places .ensures) (c .before .before .before .before .before .if2 .left) _ z, omega (arith, c .before .before .before .before .before .before .before .before .if1 .left))
 
--- src/lib.rt:513:1
 same-length : tie.Need-same-length
 same-length c = search needs
 
--- src/lib.rt:513:1
 same-length-2 : tie.Need-same-length-2
 same-length-2 c = search needs
 
--- src/lib.rt:513:1
 returns-3 : tie.Need-returns-3
 returns-3 c =
     let z : c .before .before .before .before .before .before .before .before .before .before .before .before .places .result .count - 0 ≡ c .before .before .before .before .before .before .before .before .before .before .before .before .places .result .count = omega arith in

@@ -1,3 +1,4 @@
+-- `build::build` meets its contract. Assumes nothing.
 use mathlib.Core.Path.{_≡_, refl, sym, ap, _∙_}
 use lib.ListN.{replicate}
 use borrow.Author.Needs.{needs}
@@ -8,23 +9,18 @@ use Rattle.build.proofs.build.Lts as lts
 use Rattle.build.proofs.attempt.Reads as attempt-reads
 use Rattle.build.proofs.clear.Reads as clear-reads
 
--- src/lib.rt:544:9
 attempt-requires : tie.Need-attempt-requires
 attempt-requires c κs = search needs
 
--- src/lib.rt:545:5
 clear-requires : tie.Need-clear-requires
 clear-requires c κs = search needs
 
--- src/lib.rt:541:1
 same-length : tie.Need-same-length
 same-length c = search needs
 
--- src/lib.rt:541:1
 same-length-2 : tie.Need-same-length-2
 same-length-2 c = search needs
 
--- src/lib.rt:541:1
 returns : tie.Need-returns
 returns c = record { result = c .before .before .before .before .before .before .before .before .attempt .ensures .1 .result; wrote = c .before .before .before .before .before .before .before .before .attempt .ensures .1 .wrote; zero = c .before .before .clear .ensures ∙ ap (λ v. replicate v 0) (c .before .before .before .before .before .before .before .before .attempt .ensures .0) }
 

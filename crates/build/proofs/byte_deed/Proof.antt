@@ -1,3 +1,4 @@
+-- `build::byte_deed` meets its contract. Assumes nothing.
 use mathlib.Core.Path.{_≡_, refl, sym, ap, _∙_}
 use native.Mathlib.Omega.{arith}
 use Rattle.build.proofs.Deeds.{not-over, does}
@@ -10,23 +11,18 @@ use Rattle.build.proofs.commands_of.Reads as commands-of-reads
 use Rattle.explore.proofs.next_of.Reads as next-of-reads
 use Rattle.explore.proofs.place.Reads as place-reads
 
--- src/lib.rt:226:9
 next-of-requires : tie.Need-next-of-requires
 next-of-requires c κs = (c .before .before .before .pre .0, (c .before .before .before .pre .1 .1 .0 .0, (c .before .before .before .pre .1 .1 .0 .1 .0, omega (arith, c .before .before .before .pre .1 .1 .0 .1 .1))))
 
--- src/lib.rt:228:9
 place-requires : tie.Need-place-requires
 place-requires c κs = search needs
 
--- src/lib.rt:231:15
 cast-t12 : tie.Need-cast-t12
 cast-t12 c = search needs
 
--- src/lib.rt:232:17
 commands-of-requires : tie.Need-commands-of-requires
 commands-of-requires c κs = c .before .before .before .next-of .ensures .is .few (not-over _ _ _ _ _ _ (c .before .before .before .before .before .before .before .pre .1 .0) (c .before .before .before .before .before .before .before .pre .1 .1 .1) _ (c .before .before .before .next-of .ensures))
 
--- src/lib.rt:211:1
 returns : tie.Need-returns
 returns c = does _ _ _ _ _ _ (c .before .before .before .before .before .before .before .before .pre .1 .0) (c .before .before .before .before .before .before .before .before .pre .1 .1 .1) _ (c .before .before .before .before .next-of .ensures) _ _ (c .before .before .before .before .before .before .before .before .pre .1 .1 .0 .1 .0) (c .before .before .place .ensures) _ (c .commands-of .ensures)
 

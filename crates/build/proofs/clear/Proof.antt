@@ -1,3 +1,4 @@
+-- `build::clear` meets its contract. Assumes nothing.
 use mathlib.Core.Path.{_≡_, refl, sym, ap, _∙_}
 use Prim.Native.Nat.{_≤_, _+_, _-_}
 use native.Mathlib.Omega.{arith}
@@ -15,31 +16,24 @@ Inv-loop work₀ i₀ work i = (i ≤ length work) × ((length work ≡ length w
 abbrev μ-loop : tie.MeasureT-loop
 μ-loop work₀ i₀ work i = length work - i
 
--- src/lib.rt:533:5
 loop-holds : tie.Need-loop-holds Inv-loop μ-loop
 loop-holds c = (omega arith, (refl, refl))
 
--- src/lib.rt:534:9
 slice-write-work : tie.Need-slice-write-work Inv-loop μ-loop
 slice-write-work c = omega arith
 
--- src/lib.rt:535:9
 add-i : tie.Need-add-i Inv-loop μ-loop
 add-i c = omega arith
 
--- src/lib.rt:533:5
 loop-less : tie.Need-loop-less Inv-loop μ-loop
 loop-less c = simp length-set (omega arith)
 
--- src/lib.rt:533:5
 loop-again : tie.Need-loop-again Inv-loop μ-loop
 loop-again c = (simp length-set (omega arith), (simp length-set (c .before .loop .inv .1 .0), cleared-more (c .before .loop .work) (c .before .loop .i) (c .before .loop .inv .1 .1) (omega arith)))
 
--- src/lib.rt:529:1
 same-length : tie.Need-same-length Inv-loop μ-loop
 same-length c = c .before .loop .inv .1 .0
 
--- src/lib.rt:529:1
 returns : tie.Need-returns Inv-loop μ-loop
 returns c = cleared-all _ (c .before .loop .i) (c .before .loop .inv .1 .1) (omega arith) _ (c .before .loop .inv .1 .0)
 

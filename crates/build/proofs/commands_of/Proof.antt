@@ -1,3 +1,4 @@
+-- `build::commands_of` meets its contract. Assumes nothing.
 use mathlib.Core.Path.{_≡_, refl, sym, ap, _∙_}
 use mathlib.Core.List.{List, [], _∷_, _++_, map}
 use Prim.Native.Nat.{_≤_, _+_, _-_}
@@ -22,45 +23,35 @@ Inv-loop fresh regs n c₀ k₀ c k = (k ≤ n) × ((c .n ≤ k) × (orders-of c
 abbrev μ-loop : tie.MeasureT-loop
 μ-loop fresh regs n c₀ k₀ c k = n - k
 
--- src/lib.rt:89:9
 new-requires : tie.Need-new-requires Inv-loop μ-loop
 new-requires c κs = search needs
 
--- src/lib.rt:91:5
 loop-holds : tie.Need-loop-holds Inv-loop μ-loop
 loop-holds c = (omega arith, (omega (arith, c .new .ensures), commands-start _ (c .new .ensures) _))
 
--- src/lib.rt:92:17
 mul-o : tie.Need-mul-o Inv-loop μ-loop
 mul-o c = omega (arith, c .before .before .before .pre)
 
--- src/lib.rt:92:17
 element-copy-out-o : tie.Need-element-copy-out-o Inv-loop μ-loop
 element-copy-out-o c = omega (arith, c .before .before .before .pre)
 
--- src/lib.rt:93:27
 cast-fill : tie.Need-cast-fill Inv-loop μ-loop
 cast-fill c = omega (arith, c .before .before .before .before .pre)
 
--- src/lib.rt:93:9
 fill-requires : tie.Need-fill-requires Inv-loop μ-loop
 fill-requires c κs = omega (arith, c .before .before .before .before .pre, c .before .before .loop .inv .1 .0)
 
--- src/lib.rt:94:9
 add-k : tie.Need-add-k Inv-loop μ-loop
 add-k c = omega (arith, c .before .before .before .before .before .pre)
 
--- src/lib.rt:91:5
 loop-less : tie.Need-loop-less Inv-loop μ-loop
 loop-less c = omega arith
 
--- src/lib.rt:91:5
 loop-again : tie.Need-loop-again Inv-loop μ-loop
 loop-again c =
     let len = unmapped _ (c .before .before .before .before .before .args .t2 .list) 64 (c .before .before .before .before .before .good .1 .0 .1 .1 .1 .0 .1 .0 .1) in
     (omega arith, (omega (arith, c .fill .ensures .1, c .before .before .before .loop .inv .1 .0), commands-more _ (c .before .before .before .before .before .args .t2) (omega (arith, c .before .before .before .before .before .pre)) _ _ _ (omega arith) (c .before .before .before .loop .inv .1 .1) (c .fill .ensures .0)))
 
--- src/lib.rt:84:1
 returns : tie.Need-returns Inv-loop μ-loop
 returns c =
     let len = unmapped _ (c .before .before .before .args .t2 .list) 64 (c .before .before .before .good .1 .0 .1 .1 .1 .0 .1 .0 .1) in

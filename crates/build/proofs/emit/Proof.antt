@@ -1,3 +1,4 @@
+-- `build::emit` meets its contract. Assumes nothing.
 use mathlib.Core.Path.{_≡_, refl, sym, ap, _∙_}
 use mathlib.Core.Logic.{⊎-elim}
 use lib.ListN.{length-set}
@@ -9,19 +10,15 @@ use Rattle.build.proofs.emit.Tie as tie
 use Rattle.build.proofs.emit.Reads as reads
 use Rattle.build.proofs.emit.Lts as lts
 
--- src/lib.rt:138:9
 slice-write-out : tie.Need-slice-write-out
 slice-write-out c = search needs
 
--- src/lib.rt:140:5
 add-result : tie.Need-add-result
 add-result c = search needs
 
--- src/lib.rt:133:1
 same-length : tie.Need-same-length
 same-length c = ⊎-elim (λ w. rw (w .1) (simp length-set)) (λ w. rw (w .1) refl) (c .if1 .came)
 
--- src/lib.rt:133:1
 returns : tie.Need-returns
 returns c = ⊎-elim (λ w. rw (w .1) (wrote-one _ _ _)) (λ w. rw (w .1) (wrote-past _ _ _ (w .0 .left))) (c .if1 .came)
 

@@ -1,3 +1,4 @@
+-- `build::emit_fields` meets its contract. Assumes nothing.
 use mathlib.Core.Path.{_≡_, refl, sym, ap, _∙_}
 use Prim.Native.Nat.{_≤_, _+_, _*_, _-_}
 use native.Mathlib.Omega.{arith}
@@ -17,37 +18,29 @@ Inv-loop out₀ at e p₀ t₀ out p t = (t ≤ 8) × ((p ≤ at + t) × Left ou
 abbrev μ-loop : tie.MeasureT-loop
 μ-loop out₀ at e p₀ t₀ out p t = 8 - t
 
--- src/lib.rt:344:5
 loop-holds : tie.Need-loop-holds Inv-loop μ-loop
 loop-holds c = (omega arith, (omega arith, left-all _ _ _))
 
--- src/lib.rt:345:26
 element-copy-out-emit : tie.Need-element-copy-out-emit Inv-loop μ-loop
 element-copy-out-emit c = omega arith
 
--- src/lib.rt:345:9
 emit-requires : tie.Need-emit-requires Inv-loop μ-loop
 emit-requires c κs = omega (arith, c .before .before .before .before .before .pre, c .before .before .before .loop .inv .1 .0)
 
--- src/lib.rt:346:9
 add-t : tie.Need-add-t Inv-loop μ-loop
 add-t c = omega arith
 
--- src/lib.rt:344:5
 loop-less : tie.Need-loop-less Inv-loop μ-loop
 loop-less c = omega arith
 
--- src/lib.rt:344:5
 loop-again : tie.Need-loop-again Inv-loop μ-loop
 loop-again c =
     let len : length (c .before .before .before .before .before .before .before .before .args .t3 .had) ≡ 8 = search needs in
     (omega arith, (omega (arith, c .before .before .emit .ensures .end, c .before .before .before .before .before .before .loop .inv .1 .0), left-on (c .before .before .before .before .before .before .loop .inv .1 .1) (byte-here (c .before .before .before .before .before .before .before .before .args .t3 .had) (c .before .before .before .before .before .before .loop .t) (omega arith)) (c .before .before .emit .ensures)))
 
--- src/lib.rt:338:1
 same-length : tie.Need-same-length Inv-loop μ-loop
 same-length c = left-size (c .before .loop .inv .1 .1)
 
--- src/lib.rt:338:1
 returns : tie.Need-returns Inv-loop μ-loop
 returns c =
     let len : length (c .before .before .before .args .t3 .had) ≡ 8 = search needs in

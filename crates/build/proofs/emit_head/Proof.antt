@@ -1,3 +1,4 @@
+-- `build::emit_head` meets its contract. Assumes nothing.
 use native.Mathlib.Omega.{arith}
 use Rattle.build.proofs.Writing.{wrote-then}
 use borrow.Author.Needs.{needs}
@@ -7,31 +8,24 @@ use Rattle.build.proofs.emit_head.Reads as reads
 use Rattle.build.proofs.emit_head.Lts as lts
 use Rattle.build.proofs.emit.Reads as emit-reads
 
--- src/lib.rt:417:9
 emit-requires : tie.Need-emit-requires
 emit-requires c κs = search needs
 
--- src/lib.rt:418:9
 emit-requires-2 : tie.Need-emit-requires-2
 emit-requires-2 c κs = search needs
 
--- src/lib.rt:419:9
 emit-requires-3 : tie.Need-emit-requires-3
 emit-requires-3 c κs = search needs
 
--- src/lib.rt:420:9
 emit-requires-4 : tie.Need-emit-requires-4
 emit-requires-4 c κs = search needs
 
--- src/lib.rt:421:5
 emit-requires-5 : tie.Need-emit-requires-5
 emit-requires-5 c κs = search needs
 
--- src/lib.rt:414:1
 same-length : tie.Need-same-length
 same-length c = search needs
 
--- src/lib.rt:414:1
 returns : tie.Need-returns
 returns c =
     let w = wrote-then (wrote-then (wrote-then (wrote-then (c .before .before .before .before .before .before .before .before .before .before .before .before .before .before .before .before .before .before .emit .ensures) (c .before .before .before .before .before .before .before .before .before .before .before .before .before .before .emit2 .ensures)) (c .before .before .before .before .before .before .before .before .before .before .emit3 .ensures)) (c .before .before .before .before .before .before .emit4 .ensures)) (c .before .before .emit5 .ensures) in

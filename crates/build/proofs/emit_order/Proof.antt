@@ -1,3 +1,4 @@
+-- `build::emit_order` meets its contract. Assumes nothing.
 use mathlib.Core.Path.{_≡_, refl, sym, ap, _∙_}
 use native.Mathlib.Omega.{arith}
 use Rattle.build.proofs.Commands.{is-set, is-move}
@@ -9,41 +10,32 @@ use Rattle.build.proofs.emit_order.Reads as reads
 use Rattle.build.proofs.emit_order.Lts as lts
 use Rattle.build.proofs.emit.Reads as emit-reads
 
--- src/lib.rt:148:13
 emit-requires : tie.Need-emit-requires
 emit-requires c κs = search needs
 
--- src/lib.rt:149:9
 emit-requires-2 : tie.Need-emit-requires-2
 emit-requires-2 c κs = search needs
 
--- src/lib.rt:149:9
 same-length : tie.Need-same-length
 same-length c = search needs
 
--- src/lib.rt:149:9
 returns : tie.Need-returns
 returns c =
     let w = wrote-then (c .before .before .before .before .before .before .emit .ensures) (c .before .before .emit2 .ensures) in
     rw (is-set (c .before .before .before .before .before .before .before .before .before .before .args .o) (c .before .before .before .before .before .before .before .before .if1 .taken)) (w, omega (arith, w .end))
 
--- src/lib.rt:151:9
 emit-requires-3 : tie.Need-emit-requires-3
 emit-requires-3 c κs = search needs
 
--- src/lib.rt:152:9
 emit-requires-4 : tie.Need-emit-requires-4
 emit-requires-4 c κs = search needs
 
--- src/lib.rt:153:5
 emit-requires-5 : tie.Need-emit-requires-5
 emit-requires-5 c κs = search needs
 
--- src/lib.rt:143:1
 same-length-2 : tie.Need-same-length-2
 same-length-2 c = search needs
 
--- src/lib.rt:143:1
 returns-2 : tie.Need-returns-2
 returns-2 c =
     let w = wrote-then (wrote-then (c .before .before .before .before .before .before .before .before .before .before .emit3 .ensures) (c .before .before .before .before .before .before .emit4 .ensures)) (c .before .before .emit5 .ensures) in

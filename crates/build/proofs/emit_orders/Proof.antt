@@ -1,3 +1,4 @@
+-- `build::emit_orders` meets its contract. Assumes nothing.
 use mathlib.Core.Path.{_≡_, refl, sym, ap, _∙_}
 use Prim.Native.Nat.{_≤_, _+_, _*_, _-_}
 use native.Mathlib.Omega.{arith}
@@ -21,41 +22,32 @@ Inv-loop out₀ at c n p₀ i₀ out p i = (i ≤ n) × ((p ≤ at + 3 * i) × L
 abbrev μ-loop : tie.MeasureT-loop
 μ-loop out₀ at c n p₀ i₀ out p i = n - i
 
--- src/lib.rt:163:5
 loop-holds : tie.Need-loop-holds Inv-loop μ-loop
 loop-holds c = (omega arith, (omega arith, left-all _ _ _))
 
--- src/lib.rt:164:17
 mul-o : tie.Need-mul-o Inv-loop μ-loop
 mul-o c = omega (arith, c .before .before .before .pre .1)
 
--- src/lib.rt:164:17
 element-copy-out-o : tie.Need-element-copy-out-o Inv-loop μ-loop
 element-copy-out-o c = omega (arith, c .before .before .before .pre .1)
 
--- src/lib.rt:165:9
 emit-order-requires : tie.Need-emit-order-requires Inv-loop μ-loop
 emit-order-requires c κs = omega (arith, c .before .before .before .before .before .pre .0, c .before .before .before .before .before .pre .1, c .before .before .before .loop .inv .1 .0)
 
--- src/lib.rt:166:9
 add-i : tie.Need-add-i Inv-loop μ-loop
 add-i c = omega (arith, c .before .before .before .before .before .before .before .before .pre .1)
 
--- src/lib.rt:163:5
 loop-less : tie.Need-loop-less Inv-loop μ-loop
 loop-less c = omega arith
 
--- src/lib.rt:163:5
 loop-again : tie.Need-loop-again Inv-loop μ-loop
 loop-again c =
     let len = unmapped _ (c .before .before .before .before .before .before .before .before .args .t3 .list) 64 (c .before .before .before .before .before .before .before .before .good .1 .1 .0 .1 .1 .1 .0 .1 .0 .1) in
     (omega arith, (omega (arith, c .before .before .emit-order .ensures .1, c .before .before .before .before .before .before .loop .inv .1 .0), left-on (c .before .before .before .before .before .before .loop .inv .1 .1) (ap (each cmd-bytes) (order-here (c .before .before .before .before .before .before .before .before .args .t3) (omega (arith, c .before .before .before .before .before .before .before .before .pre .1)) (c .before .before .before .before .before .before .loop .i) (omega arith))) (c .before .before .emit-order .ensures .0)))
 
--- src/lib.rt:156:1
 same-length : tie.Need-same-length Inv-loop μ-loop
 same-length c = left-size (c .before .loop .inv .1 .1)
 
--- src/lib.rt:156:1
 returns : tie.Need-returns Inv-loop μ-loop
 returns c =
     let len = unmapped _ (c .before .before .before .args .t3 .list) 64 (c .before .before .before .good .1 .1 .0 .1 .1 .1 .0 .1 .0 .1) in

@@ -1,3 +1,4 @@
+-- `build::emit_row` meets its contract. Assumes nothing.
 use native.Mathlib.Omega.{arith}
 use Rattle.build.proofs.Writing.{wrote-then}
 use borrow.Author.Needs.{needs}
@@ -8,31 +9,24 @@ use Rattle.build.proofs.emit_row.Lts as lts
 use Rattle.build.proofs.emit.Reads as emit-reads
 use Rattle.build.proofs.emit_orders.Reads as emit-orders-reads
 
--- src/lib.rt:190:9
 emit-requires : tie.Need-emit-requires
 emit-requires c κs = search needs
 
--- src/lib.rt:191:9
 emit-requires-2 : tie.Need-emit-requires-2
 emit-requires-2 c κs = search needs
 
--- src/lib.rt:192:9
 emit-requires-3 : tie.Need-emit-requires-3
 emit-requires-3 c κs = search needs
 
--- src/lib.rt:193:9
 emit-requires-4 : tie.Need-emit-requires-4
 emit-requires-4 c κs = search needs
 
--- src/lib.rt:195:5
 emit-orders-requires : tie.Need-emit-orders-requires
 emit-orders-requires c κs = search needs
 
--- src/lib.rt:186:1
 same-length : tie.Need-same-length
 same-length c = search needs
 
--- src/lib.rt:186:1
 returns : tie.Need-returns
 returns c =
     let w = wrote-then (wrote-then (wrote-then (c .before .before .before .before .before .before .before .before .before .before .before .before .before .before .before .before .before .before .before .emit .ensures) (c .before .before .before .before .before .before .before .before .before .before .before .before .before .before .before .emit2 .ensures)) (c .before .before .before .before .before .before .before .before .before .before .before .emit3 .ensures)) (c .before .before .before .before .before .before .before .emit4 .ensures) in

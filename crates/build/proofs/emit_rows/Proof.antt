@@ -1,3 +1,4 @@
+-- `build::emit_rows` meets its contract. Assumes nothing.
 use mathlib.Core.Path.{_≡_, refl, sym, ap, _∙_}
 use Prim.Native.Nat.{_≤_, _+_, _*_, _-_}
 use native.Mathlib.Omega.{arith}
@@ -22,43 +23,33 @@ Inv-loop file offs work out₀ s regs count at q₀ b₀ out q b = (1 ≤ b) × 
 abbrev μ-loop : tie.MeasureT-loop
 μ-loop file offs work out₀ s regs count at q₀ b₀ out q b = 256 - b
 
--- src/lib.rt:295:9
 byte-deed-requires : tie.Need-byte-deed-requires Inv-loop μ-loop
 byte-deed-requires c κs = (c .before .before .before .before .pre .0, (c .before .before .before .before .pre .1 .0 .kept, ((c .before .before .before .before .pre .1 .0 .fit, (c .before .before .before .before .pre .1 .0 .tally, c .before .before .before .before .pre .1 .0 .few)), c .before .before .before .before .pre .1 .0 .leads 0 (omega arith))))
 
--- src/lib.rt:302:5
 loop-holds : tie.Need-loop-holds Inv-loop μ-loop
 loop-holds c = (omega arith, (omega arith, (omega arith, (c .byte-deed .ensures, rows-start _ _ _ _ _ _ (c .byte-deed .ensures)))))
 
--- src/lib.rt:303:64
 cast-row-step : tie.Need-cast-row-step Inv-loop μ-loop
 cast-row-step c = omega arith
 
--- src/lib.rt:303:9
 row-step-requires : tie.Need-row-step-requires Inv-loop μ-loop
 row-step-requires c κs = (c .before .before .before .before .before .before .before .before .pre .0, (c .before .before .before .before .before .before .before .before .pre .1 .0, ((omega (arith, c .before .before .loop .inv .0), omega (arith, c .before .before .before .before .before .before .before .before .pre .1 .1, c .before .before .loop .inv .1 .1 .0)), c .before .before .loop .inv .1 .1 .1 .0)))
 
--- src/lib.rt:304:9
 add-b : tie.Need-add-b Inv-loop μ-loop
 add-b c = omega arith
 
--- src/lib.rt:302:5
 loop-less : tie.Need-loop-less Inv-loop μ-loop
 loop-less c = omega arith
 
--- src/lib.rt:302:5
 loop-again : tie.Need-loop-again Inv-loop μ-loop
 loop-again c = (omega arith, (omega arith, (omega (arith, c .before .before .row-step .ensures .within, c .before .before .before .before .before .loop .inv .1 .1 .0), (does-again _ _ _ _ _ (c .before .before .row-step .ensures .does), rows-on _ _ _ _ _ _ _ _ _ _ (omega arith) (c .before .before .before .before .before .loop .inv .1 .1 .1 .1) (c .before .before .row-step .ensures)))))
 
--- src/lib.rt:307:5
 emit-row-requires : tie.Need-emit-row-requires Inv-loop μ-loop
 emit-row-requires c κs = (omega (arith, c .before .before .before .before .before .before .before .before .before .pre .1 .1, c .before .before .before .loop .inv .1 .0, c .before .before .before .loop .inv .1 .1 .0), c .before .before .before .loop .inv .1 .1 .1 .0 .few)
 
--- src/lib.rt:280:1
 same-length : tie.Need-same-length Inv-loop μ-loop
 same-length c = wrote-size (c .before .before .emit-row .ensures .0) ∙ left-size (c .before .before .before .before .before .before .loop .inv .1 .1 .1 .1)
 
--- src/lib.rt:280:1
 returns : tie.Need-returns Inv-loop μ-loop
 returns c = (rows-end _ _ _ _ _ _ _ _ (c .before .before .before .before .before .before .loop .b) _ (omega (arith, c .before .before .before .before .before .before .loop .inv .1 .0)) (c .before .before .before .before .before .before .loop .inv .1 .1 .1 .1) (c .before .before .emit-row .ensures .0), omega (arith, c .before .before .emit-row .ensures .1, c .before .before .before .before .before .before .loop .inv .1 .0, c .before .before .before .before .before .before .loop .inv .1 .1 .0))
 

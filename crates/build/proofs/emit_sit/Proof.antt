@@ -1,3 +1,4 @@
+-- `build::emit_sit` meets its contract. Assumes nothing.
 use mathlib.Core.Path.{_≡_, refl, sym, ap, _∙_, subst}
 use native.Mathlib.Omega.{arith}
 use Rattle.explore.proofs.Exploration.{loaded-fit}
@@ -15,47 +16,36 @@ use Rattle.build.proofs.emit_rows.Reads as emit-rows-reads
 use Rattle.build.proofs.ending_of.Reads as ending-of-reads
 use Rattle.explore.proofs.load.Reads as load-reads
 
--- src/lib.rt:366:9
 load-requires : tie.Need-load-requires
 load-requires c κs = (omega (arith, c .before .before .before .before .pre .1 .0 .0 .kept .room, c .before .before .before .before .pre .1 .0 .0 .kept .most, c .before .before .before .before .pre .1 .0 .1), c .before .before .before .before .pre .1 .0 .0 .kept .holds _ (c .before .before .before .before .pre .1 .0 .1) .few)
 
--- src/lib.rt:367:21
 mul-regs : tie.Need-mul-regs
 mul-regs c = search needs
 
--- src/lib.rt:367:21
 add-regs : tie.Need-add-regs
 add-regs c = search needs
 
--- src/lib.rt:367:16
 shared-slice-read-regs : tie.Need-shared-slice-read-regs
 shared-slice-read-regs c = search needs
 
--- src/lib.rt:368:9
 ending-of-requires : tie.Need-ending-of-requires
 ending-of-requires c κs = (c .before .before .before .before .before .before .pre .0, loaded-fit _ _ _ _ (c .before .before .before .before .before .before .pre .1 .0 .0 .kept .holds _ (c .before .before .before .before .before .before .pre .1 .0 .1)) (c .before .load .ensures .0) (c .before .load .ensures .1))
 
--- src/lib.rt:369:9
 emit-requires : tie.Need-emit-requires
 emit-requires c κs = search needs
 
--- src/lib.rt:370:9
 emit-requires-2 : tie.Need-emit-requires-2
 emit-requires-2 c κs = search needs
 
--- src/lib.rt:371:9
 emit-fields-requires : tie.Need-emit-fields-requires
 emit-fields-requires c κs = search needs
 
--- src/lib.rt:372:5
 emit-rows-requires : tie.Need-emit-rows-requires
 emit-rows-requires c κs = (c .before .before .before .before .before .before .before .before .before .before .before .before .before .before .before .before .before .before .before .before .pre .0, (given _ _ _ _ _ (c .before .before .before .before .before .before .before .before .before .before .before .before .before .before .before .before .before .before .before .before .pre .1 .0 .0) (c .before .before .before .before .before .before .before .before .before .before .before .before .before .before .before .before .before .before .before .before .pre .1 .0 .1) _ (c .before .before .before .before .before .before .before .before .before .before .before .before .before .before .before .load .ensures .0) (c .before .before .before .before .before .before .before .before .before .before .before .before .before .before .before .load .ensures .1), omega (arith, c .before .before .before .before .before .before .before .before .before .before .before .before .before .before .before .before .before .before .before .before .pre .1 .1, c .before .before .before .before .before .before .before .before .before .before .before .emit .ensures .end, c .before .before .before .before .before .before .before .emit2 .ensures .end, c .before .before .before .emit-fields .ensures .1)))
 
--- src/lib.rt:352:1
 same-length : tie.Need-same-length
 same-length c = search needs
 
--- src/lib.rt:352:1
 returns : tie.Need-returns
 returns c =
     let w = wrote-then (wrote-then (wrote-then (c .before .before .before .before .before .before .before .before .before .before .before .before .before .before .emit .ensures) (c .before .before .before .before .before .before .before .before .before .before .emit2 .ensures)) (c .before .before .before .before .before .before .emit-fields .ensures .0)) (c .before .before .emit-rows .ensures .0) in

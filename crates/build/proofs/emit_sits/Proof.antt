@@ -1,3 +1,4 @@
+-- `build::emit_sits` meets its contract. Assumes nothing.
 use mathlib.Core.Path.{_≡_, refl, sym, ap, _∙_}
 use Prim.Native.Nat.{_≤_, _+_, _*_, _-_}
 use native.Mathlib.Omega.{arith}
@@ -19,31 +20,24 @@ Inv-loop file offs work out₀ count at p₀ i₀ out p i = (i ≤ count) × ((p
 abbrev μ-loop : tie.MeasureT-loop
 μ-loop file offs work out₀ count at p₀ i₀ out p i = count - i
 
--- src/lib.rt:390:5
 loop-holds : tie.Need-loop-holds Inv-loop μ-loop
 loop-holds c = (omega arith, (omega arith, sits-start _ _ _ _ _))
 
--- src/lib.rt:391:9
 emit-sit-requires : tie.Need-emit-sit-requires Inv-loop μ-loop
 emit-sit-requires c κs = (c .before .before .before .before .before .before .before .pre .0, ((c .before .before .before .before .before .before .before .pre .1 .0, omega arith), omega (arith, c .before .before .before .before .before .before .before .pre .1 .1, c .before .before .before .before .before .before .before .pre .1 .0 .kept .most, c .before .before .loop .inv .1 .0)))
 
--- src/lib.rt:392:9
 add-i : tie.Need-add-i Inv-loop μ-loop
 add-i c = omega arith
 
--- src/lib.rt:390:5
 loop-less : tie.Need-loop-less Inv-loop μ-loop
 loop-less c = omega arith
 
--- src/lib.rt:390:5
 loop-again : tie.Need-loop-again Inv-loop μ-loop
 loop-again c = (omega arith, (omega (arith, c .before .before .emit-sit .ensures .1, c .before .before .before .before .before .loop .inv .1 .0), sits-on _ _ _ (c .before .before .before .before .before .loop .i) (c .before .before .before .before .before .loop .inv .1 .1) (omega arith) (c .before .before .emit-sit .ensures .0)))
 
--- src/lib.rt:375:1
 same-length : tie.Need-same-length Inv-loop μ-loop
 same-length c = left-size (c .before .loop .inv .1 .1)
 
--- src/lib.rt:375:1
 returns : tie.Need-returns Inv-loop μ-loop
 returns c = (sits-done _ _ _ (c .before .loop .i) (c .before .loop .inv .1 .1) (omega arith), omega (arith, c .before .before .before .before .before .before .pre .1 .1, c .before .before .before .before .before .before .pre .1 .0 .kept .most, c .before .loop .inv .0, c .before .loop .inv .1 .0))
 

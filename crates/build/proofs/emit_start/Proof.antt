@@ -1,3 +1,4 @@
+-- `build::emit_start` meets its contract. Assumes nothing.
 use mathlib.Core.Path.{_≡_, refl, sym, ap, _∙_}
 use mathlib.Core.List.{map}
 use Prim.Native.Nat.{_≤_, _+_, _*_, _-_}
@@ -20,35 +21,27 @@ Inv-loop out₀ at n p₀ k₀ out p k = (k ≤ n) × ((p ≤ at + 2 * k) × Lef
 abbrev μ-loop : tie.MeasureT-loop
 μ-loop out₀ at n p₀ k₀ out p k = n - k
 
--- src/lib.rt:406:5
 loop-holds : tie.Need-loop-holds Inv-loop μ-loop
 loop-holds c = (omega arith, (omega arith, sets-start _ _ _))
 
--- src/lib.rt:407:9
 emit-requires : tie.Need-emit-requires Inv-loop μ-loop
 emit-requires c κs = omega (arith, c .before .before .before .before .pre .0, c .before .before .before .before .pre .1, c .before .before .loop .inv .1 .0)
 
--- src/lib.rt:408:9
 emit-requires-2 : tie.Need-emit-requires-2 Inv-loop μ-loop
 emit-requires-2 c κs = omega (arith, c .before .before .before .before .before .before .before .before .pre .0, c .before .before .before .before .before .before .before .before .pre .1, c .before .before .before .before .before .before .loop .inv .1 .0, c .before .before .before .emit .ensures .end)
 
--- src/lib.rt:409:9
 add-k : tie.Need-add-k Inv-loop μ-loop
 add-k c = omega (arith, c .before .before .before .before .before .before .before .before .before .before .before .pre .1)
 
--- src/lib.rt:406:5
 loop-less : tie.Need-loop-less Inv-loop μ-loop
 loop-less c = omega arith
 
--- src/lib.rt:406:5
 loop-again : tie.Need-loop-again Inv-loop μ-loop
 loop-again c = (omega arith, (omega (arith, c .before .before .before .before .before .before .emit .ensures .end, c .before .before .emit2 .ensures .end, c .before .before .before .before .before .before .before .before .before .loop .inv .1 .0), sets-on (c .before .before .before .before .before .before .before .before .before .loop .k) _ (c .before .before .before .before .before .before .before .before .before .loop .inv .1 .1) (omega arith) (wrote-then (c .before .before .before .before .before .before .emit .ensures) (c .before .before .emit2 .ensures))))
 
--- src/lib.rt:400:1
 same-length : tie.Need-same-length Inv-loop μ-loop
 same-length c = left-size (c .before .loop .inv .1 .1)
 
--- src/lib.rt:400:1
 returns : tie.Need-returns Inv-loop μ-loop
 returns c = (sets-done (c .before .loop .k) _ (c .before .loop .inv .1 .1) (omega arith), omega (arith, c .before .before .before .pre .0, c .before .before .before .pre .1, c .before .loop .inv .0, c .before .loop .inv .1 .0))
 

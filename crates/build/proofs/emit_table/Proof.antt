@@ -1,3 +1,4 @@
+-- `build::emit_table` meets its contract. Assumes nothing.
 use mathlib.Core.Path.{_≡_, refl, sym, ap, _∙_, subst}
 use native.Mathlib.Omega.{arith}
 use Rattle.build.specs.Card.{need}
@@ -13,37 +14,29 @@ use Rattle.build.proofs.emit_sits.Reads as emit-sits-reads
 use Rattle.build.proofs.emit_start.Reads as emit-start-reads
 use Rattle.build.proofs.most_of.Reads as most-of-reads
 
--- src/lib.rt:456:9
 most-of-requires : tie.Need-most-of-requires
 most-of-requires c κs = (omega (arith, c .before .before .before .before .pre .1 .0 .kept .room, c .before .before .before .before .pre .1 .0 .kept .most), λ j b. c .before .before .before .before .pre .1 .0 .kept .holds j b .count)
 
--- src/lib.rt:457:37
 cast-emit-head : tie.Need-cast-emit-head
 cast-emit-head c = search needs
 
--- src/lib.rt:457:9
 emit-head-requires : tie.Need-emit-head-requires
 emit-head-requires c κs = search needs
 
--- src/lib.rt:458:13
 shared-slice-read-n : tie.Need-shared-slice-read-n
 shared-slice-read-n c = search needs
 
--- src/lib.rt:459:9
 emit-start-requires : tie.Need-emit-start-requires
 emit-start-requires c κs =
     let h = c .before .before .before .before .before .before .before .before .before .before .before .pre .1 .0 .kept .holds 0 (c .before .before .before .before .before .before .before .before .before .before .before .pre .1 .1 .0) in
     (omega (arith, c .before .before .before .before .emit-head .ensures .1), omega (arith, h .count, h .small))
 
--- src/lib.rt:460:5
 emit-sits-requires : tie.Need-emit-sits-requires
 emit-sits-requires c κs = search needs
 
--- src/lib.rt:443:1
 same-length : tie.Need-same-length
 same-length c = search needs
 
--- src/lib.rt:443:1
 returns : tie.Need-returns
 returns c =
     let h = c .before .before .before .before .before .before .before .before .before .before .before .before .before .before .before .before .before .before .pre .1 .0 .kept .holds 0 (c .before .before .before .before .before .before .before .before .before .before .before .before .before .before .before .before .before .before .pre .1 .1 .0) in

@@ -1,3 +1,4 @@
+-- `build::ending_of` meets its contract. Assumes nothing.
 use mathlib.Core.Path.{_≡_, refl, sym, ap, _∙_}
 use Prim.Native.Nat.{_≤_, _+_, _*_, _-_}
 use native.Mathlib.Omega.{arith}
@@ -21,29 +22,23 @@ Inv-loop file offs s n i₀ i = (i ≤ n) × (first-end (net-at file offs) (thre
 abbrev μ-loop : tie.MeasureT-loop
 μ-loop file offs s n i₀ i = n - i
 
--- src/lib.rt:325:5
 loop-holds : tie.Need-loop-holds Inv-loop μ-loop
 loop-holds c = (omega arith, refl)
 
--- src/lib.rt:326:17
 mul-e : tie.Need-mul-e Inv-loop μ-loop
 mul-e c = omega (arith, c .before .before .before .before .pre .1 .few)
 
--- src/lib.rt:326:17
 element-copy-out-e : tie.Need-element-copy-out-e Inv-loop μ-loop
 element-copy-out-e c = omega (arith, c .before .before .before .before .pre .1 .few)
 
--- src/lib.rt:327:13
 end-at-requires : tie.Need-end-at-requires Inv-loop μ-loop
 end-at-requires c κs =
     let len = unmapped _ (c .before .before .before .before .before .args .t3 .list) 64 (c .before .before .before .before .before .good .1 .1 .0 .1 .1 .1 .1 .0 .1 .0 .1) in
     (c .before .before .before .before .before .pre .0, below-at _ (c .before .before .before .before .before .args .t3 .list) (c .before .before .before .before .before .args .t3 .n) (c .before .before .loop .i) _ (omega (arith, c .before .before .before .before .before .pre .1 .few)) (omega arith) (fit-below _ _ (c .before .before .before .before .before .pre .1)))
 
--- src/lib.rt:329:30
 enum-known-c : tie.Need-enum-known-c Inv-loop μ-loop
 enum-known-c c = search needs
 
--- src/lib.rt:330:13
 returns : tie.Need-returns Inv-loop μ-loop
 returns c =
     let len = unmapped _ (c .before .before .before .before .before .before .before .before .before .before .args .t3 .list) 64 (c .before .before .before .before .before .before .before .before .before .before .good .1 .1 .0 .1 .1 .1 .1 .0 .1 .0 .1) in
@@ -52,21 +47,17 @@ returns c =
 enum-told : tie.Need-enum-told Inv-loop μ-loop
 enum-told c = search needs
 
--- src/lib.rt:332:9
 add-i : tie.Need-add-i Inv-loop μ-loop
 add-i c = omega (arith, c .before .before .before .before .before .before .before .before .before .pre .1 .few)
 
--- src/lib.rt:325:5
 loop-less : tie.Need-loop-less Inv-loop μ-loop
 loop-less c = omega arith
 
--- src/lib.rt:325:5
 loop-again : tie.Need-loop-again Inv-loop μ-loop
 loop-again c =
     let len = unmapped _ (c .before .before .before .before .before .before .before .before .before .args .t3 .list) 64 (c .before .before .before .before .before .before .before .before .before .good .1 .1 .0 .1 .1 .1 .1 .0 .1 .0 .1) in
     (omega arith, no-end _ (c .before .before .before .before .before .before .before .before .before .args .t3) (omega (arith, c .before .before .before .before .before .before .before .before .before .pre .1 .few)) (c .before .before .before .before .before .before .loop .i) _ (c .before .before .before .before .before .before .loop .inv .1) (omega arith) (sym (c .enum-told .given .1) ∙ c .before .before .before .end-at .ensures))
 
--- src/lib.rt:318:1
 returns-2 : tie.Need-returns-2 Inv-loop μ-loop
 returns-2 c =
     let len = unmapped _ (c .before .before .before .before .args .t3 .list) 64 (c .before .before .before .before .good .1 .1 .0 .1 .1 .1 .1 .0 .1 .0 .1) in

@@ -1,3 +1,4 @@
+-- `build::make` meets its contract. Assumes nothing.
 use mathlib.Core.Path.{_≡_, refl, sym, ap, _∙_}
 use mathlib.Core.List.{[]}
 use native.Mathlib.Omega.{arith}
@@ -12,71 +13,56 @@ use Rattle.build.proofs.most_of.Reads as most-of-reads
 use Rattle.build.proofs.refuse.Reads as refuse-reads
 use Rattle.explore.proofs.explore.Reads as explore-reads
 
--- src/lib.rt:492:9
 explore-requires : tie.Need-explore-requires
 explore-requires c κs = search needs
 
--- src/lib.rt:494:9
 refuse-requires : tie.Need-refuse-requires
 refuse-requires c κs = search needs
 
--- src/lib.rt:494:9
 same-length : tie.Need-same-length
 same-length c = search needs
 
--- src/lib.rt:494:9
 returns : tie.Need-returns
 returns c = (search needs, stopped _ _ _ _ _ (c .before .before .before .before .before .explore .ensures) _ _ (c .before .if1 .taken) _ (c .refuse .ensures))
 
--- src/lib.rt:498:47
 slice-aggregate-emit-table : tie.Need-slice-aggregate-emit-table
 slice-aggregate-emit-table c = search needs
 
--- src/lib.rt:498:9
 emit-table-requires : tie.Need-emit-table-requires
 emit-table-requires c κs =
     let x = c .before .before .before .before .before .before .explore .ensures in
     let ok = c .before .before .if1 .left in
     (c .before .before .before .before .before .before .before .before .before .before .before .before .pre .0 .0, (all-of _ _ _ _ _ x 0 [] ok, (some-of _ _ _ _ _ x 0 [] ok, start-of _ _ _ _ _ x 0 [] ok)))
 
--- src/lib.rt:500:9
 refuse-requires-2 : tie.Need-refuse-requires-2
 refuse-requires-2 c κs = search needs
 
--- src/lib.rt:500:9
 same-length-2 : tie.Need-same-length-2
 same-length-2 c = search needs
 
--- src/lib.rt:500:9
 returns-2 : tie.Need-returns-2
 returns-2 c = (search needs, no-room _ _ _ _ _ (c .before .before .before .before .before .before .before .before .before .before .explore .ensures) _ _ (c .before .before .before .before .before .before .if1 .left) _ _ _ (c .before .before .before .emit-table .ensures .0) (c .before .if2 .taken) _ (c .refuse2 .ensures))
 
--- src/lib.rt:502:5
 emit-table-requires-2 : tie.Need-emit-table-requires-2
 emit-table-requires-2 c κs =
     let x = c .before .before .before .before .before .before .before .before .before .before .before .explore .ensures in
     let ok = c .before .before .before .before .before .before .before .if1 .left in
     (c .before .before .before .before .before .before .before .before .before .before .before .before .before .before .before .before .before .pre .0 .0, (all-of _ _ _ _ _ x 0 [] ok, (some-of _ _ _ _ _ x 0 [] ok, start-of _ _ _ _ _ x 0 [] ok)))
 
--- src/lib.rt:503:9
 most-of-requires : tie.Need-most-of-requires
 most-of-requires c κs =
     let k = c .before .before .before .before .before .before .before .before .before .before .before .before .before .before .before .explore .ensures .fine (c .before .before .before .before .before .before .before .before .before .before .before .if1 .left) .0 in
     (omega (arith, k .room, k .most), λ j b. k .holds j b .count)
 
--- src/lib.rt:508:20
 cast-t18 : tie.Need-cast-t18
 cast-t18 c = search needs
 
--- src/lib.rt:486:1
 same-length-3 : tie.Need-same-length-3
 same-length-3 c = search needs
 
--- src/lib.rt:486:1
 same-length-4 : tie.Need-same-length-4
 same-length-4 c = search needs
 
--- src/lib.rt:486:1
 returns-3 : tie.Need-returns-3
 returns-3 c = (search needs, room _ _ _ _ _ (c .before .before .before .before .before .before .before .before .before .before .before .before .before .before .before .before .explore .ensures) _ _ (c .before .before .before .before .before .before .before .before .before .before .before .before .if1 .left) _ _ _ (c .before .before .before .before .before .before .before .before .before .emit-table .ensures .0) (c .before .before .before .before .before .before .before .if2 .left) _ _ (c .before .before .before .before .emit-table2 .ensures .0) _ (c .most-of .ensures))
 

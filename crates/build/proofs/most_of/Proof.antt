@@ -1,3 +1,4 @@
+-- `build::most_of` meets its contract. Assumes nothing.
 use mathlib.Core.Path.{_≡_, refl, sym, ap, _∙_}
 use mathlib.Core.Logic.{⊎-elim}
 use Prim.Native.Nat.{_≤_, _+_, _*_, _-_, max}
@@ -17,37 +18,29 @@ Inv-loop work count m₀ j₀ m j = (j ≤ count) × (max m (most (slots work j 
 abbrev μ-loop : tie.MeasureT-loop
 μ-loop work count m₀ j₀ m j = count - j
 
--- src/lib.rt:432:5
 loop-holds : tie.Need-loop-holds Inv-loop μ-loop
 loop-holds c = (omega arith, most-start _ _)
 
--- src/lib.rt:433:22
 mul-k : tie.Need-mul-k Inv-loop μ-loop
 mul-k c = omega (arith, c .before .before .pre .0)
 
--- src/lib.rt:433:22
 add-k : tie.Need-add-k Inv-loop μ-loop
 add-k c = omega (arith, c .before .before .pre .0)
 
--- src/lib.rt:433:17
 shared-slice-read-k : tie.Need-shared-slice-read-k Inv-loop μ-loop
 shared-slice-read-k c = omega (arith, c .before .before .before .pre .0)
 
--- src/lib.rt:437:9
 add-j : tie.Need-add-j Inv-loop μ-loop
 add-j c = omega arith
 
--- src/lib.rt:432:5
 loop-less : tie.Need-loop-less Inv-loop μ-loop
 loop-less c = omega arith
 
--- src/lib.rt:432:5
 loop-again : tie.Need-loop-again Inv-loop μ-loop
 loop-again c =
     let on = most-on _ _ _ _ (c .before .before .before .loop .j) (omega arith) (c .before .before .before .before .pre .1 (c .before .before .before .loop .j) (omega arith)) (c .before .before .before .loop .inv .1) in
     (omega arith, ⊎-elim (λ w. rw (w .1 ∙ larger _ _ (w .0 .taken)) on) (λ w. rw (w .1 ∙ smaller _ _ (w .0 .left)) on) (c .if1 .came))
 
--- src/lib.rt:425:1
 returns : tie.Need-returns Inv-loop μ-loop
 returns c = most-end _ _ _ (c .before .loop .j) (omega arith) (c .before .loop .inv .1)
 

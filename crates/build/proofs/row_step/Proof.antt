@@ -1,3 +1,4 @@
+-- `build::row_step` meets its contract. Assumes nothing.
 use mathlib.Core.Path.{_≡_, refl, sym, ap, _∙_}
 use Prim.Native.Nat.{_<_}
 use native.Mathlib.Omega.{arith}
@@ -14,43 +15,34 @@ use Rattle.build.proofs.emit_row.Reads as emit-row-reads
 use Rattle.build.proofs.same_deed.Reads as same-deed-reads
 use Rattle.explore.proofs.fresh.Reads as fresh-reads
 
--- src/lib.rt:263:9
 fresh-requires : tie.Need-fresh-requires
 fresh-requires c κs = search needs
 
--- src/lib.rt:264:9
 returns : tie.Need-returns
 returns c =
     let alike = c .before .fresh .ensures (not-true _ (c .if1 .taken)) in
     skipped-byte _ _ _ _ _ _ (c .before .before .before .before .before .before .pre .1 .1 .0 .0) (c .before .before .before .before .before .before .pre .1 .1 .1) (next-alike (c .before .before .before .before .before .before .pre .0) _ alike _ (c .before .before .before .before .before .before .pre .1 .0 .fit .below)) (origins-alike (c .before .before .before .before .before .before .pre .0) _ alike _ (c .before .before .before .before .before .before .pre .1 .0 .fit .below))
 
--- src/lib.rt:266:9
 byte-deed-requires : tie.Need-byte-deed-requires
 byte-deed-requires c κs =
     let h : c .before .before .before .before .before .before .args .b < 256 = search needs in
     (c .before .before .before .before .before .before .pre .0, (c .before .before .before .before .before .before .pre .1 .0 .kept, ((c .before .before .before .before .before .before .pre .1 .0 .fit, (c .before .before .before .before .before .before .pre .1 .0 .tally, c .before .before .before .before .before .before .pre .1 .0 .few)), c .before .before .before .before .before .before .pre .1 .0 .leads _ h)))
 
--- src/lib.rt:268:8
 same-deed-requires : tie.Need-same-deed-requires
 same-deed-requires c κs = search needs
 
--- src/lib.rt:269:9
 returns-2 : tie.Need-returns-2
 returns-2 c = joins _ _ _ _ _ _ (c .before .before .before .before .before .before .before .before .before .before .pre .1 .1 .0 .0) (c .before .before .before .before .before .before .before .before .before .before .pre .1 .1 .1) _ (c .before .before .before .byte-deed .ensures) (sym (c .before .same-deed .ensures) ∙ c .if2 .taken)
 
--- src/lib.rt:271:39
 sub-emit-row : tie.Need-sub-emit-row
 sub-emit-row c = search needs
 
--- src/lib.rt:271:9
 emit-row-requires : tie.Need-emit-row-requires
 emit-row-requires c κs = search needs
 
--- src/lib.rt:246:1
 same-length : tie.Need-same-length
 same-length c = search needs
 
--- src/lib.rt:246:1
 returns-3 : tie.Need-returns-3
 returns-3 c = parts _ _ _ _ _ _ (c .before .before .before .before .before .before .before .before .before .before .before .before .before .before .pre .1 .1 .0 .0) (c .before .before .before .before .before .before .before .before .before .before .before .before .before .before .pre .1 .1 .1) _ (c .before .before .before .before .before .before .before .byte-deed .ensures) (sym (c .before .before .before .before .before .same-deed .ensures) ∙ c .before .before .before .before .if2 .left) _ _ (c .before .before .emit-row .ensures .0) (c .before .before .emit-row .ensures .1)
 

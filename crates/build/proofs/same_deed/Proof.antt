@@ -1,3 +1,4 @@
+-- `build::same_deed` meets its contract. Assumes nothing.
 use mathlib.Core.Path.{_≡_, refl, sym, ap, _∙_}
 use borrow.Author.Tests.{eq-eqb, ne-eqb}
 use Rattle.build.proofs.Commands.{deeds-apart, deeds-by}
@@ -8,15 +9,12 @@ use Rattle.build.proofs.same_deed.Reads as reads
 use Rattle.build.proofs.same_deed.Lts as lts
 use Rattle.build.proofs.same_orders.Reads as same-orders-reads
 
--- src/lib.rt:203:9
 returns : tie.Need-returns
 returns c = deeds-apart (c .before .before .before .args .a) (c .before .before .before .args .b) (c .if1 .taken)
 
--- src/lib.rt:207:5
 same-orders-requires : tie.Need-same-orders-requires
 same-orders-requires c κs = search needs
 
--- src/lib.rt:198:1
 returns-2 : tie.Need-returns-2
 returns-2 c = c .same-orders .ensures ∙ deeds-by (c .before .before .before .before .before .before .args .a) (c .before .before .before .before .before .before .args .b) (c .before .before .before .if1 .left)
 

@@ -1,3 +1,4 @@
+-- `explore::end_at` meets its contract. Assumes nothing.
 use mathlib.Core.Path.{_≡_, refl, sym, ap, _∙_}
 use native.Mathlib.Omega.{arith}
 use Rattle.explore.specs.Onward.{closing-of}
@@ -10,43 +11,33 @@ use Rattle.explore.proofs.end_at.Tie as tie
 use Rattle.explore.proofs.end_at.Reads as reads
 use Rattle.explore.proofs.end_at.Lts as lts
 
--- src/lib.rt:174:14
 mul-at : tie.Need-mul-at
 mul-at c = search needs
 
--- src/lib.rt:174:14
 shared-slice-read-at : tie.Need-shared-slice-read-at
 shared-slice-read-at c = search needs
 
--- src/lib.rt:175:16
 shared-slice-read-kind : tie.Need-shared-slice-read-kind
 shared-slice-read-kind c = omega (arith, kind-in (c .before .before .pre .0) (c .before .before .args .r) (c .before .before .pre .1))
 
--- src/lib.rt:177:9
 returns : tie.Need-returns
 returns c = sym (ap closing-of (rec-net _ _ _ (c .before .before .before .pre .1) ∙ at-range _ _ (c .if1 .taken)))
 
--- src/lib.rt:180:9
 returns-2 : tie.Need-returns-2
 returns-2 c = sym (ap closing-of (rec-net _ _ _ (c .before .before .before .before .pre .1) ∙ at-mask _ _ (c .if2 .taken)))
 
--- src/lib.rt:183:9
 returns-3 : tie.Need-returns-3
 returns-3 c = sym (ap closing-of (rec-net _ _ _ (c .before .before .before .before .before .pre .1) ∙ at-fork _ _ (c .if3 .taken)))
 
--- src/lib.rt:186:9
 returns-4 : tie.Need-returns-4
 returns-4 c = sym (ap closing-of (rec-net _ _ _ (c .before .before .before .before .before .before .pre .1) ∙ at-tag _ _ (c .if4 .taken)))
 
--- src/lib.rt:188:24
 add-t6 : tie.Need-add-t6
 add-t6 c = omega (arith, kind-in (c .before .before .before .before .before .before .pre .0) (c .before .before .before .before .before .before .args .r) (c .before .before .before .before .before .before .pre .1))
 
--- src/lib.rt:188:19
 shared-slice-read-t11 : tie.Need-shared-slice-read-t11
 shared-slice-read-t11 c = omega (arith, kind-in (c .before .before .before .before .before .before .before .pre .0) (c .before .before .before .before .before .before .before .args .r) (c .before .before .before .before .before .before .before .pre .1))
 
--- src/lib.rt:169:1
 returns-5 : tie.Need-returns-5
 returns-5 c = sym (ap closing-of (rec-net _ _ _ (c .before .before .before .before .before .before .before .pre .1) ∙ at-end _ _ (c .before .before .before .before .if1 .left) (c .before .before .before .if2 .left) (c .before .before .if3 .left) (c .before .if4 .left)))
 

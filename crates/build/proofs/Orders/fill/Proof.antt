@@ -1,3 +1,4 @@
+-- `build::Orders::fill` meets its contract. Assumes nothing.
 use mathlib.Core.Path.{_≡_, refl, sym, ap, _∙_}
 use mathlib.Core.List.{_++_, append-nil}
 use native.Mathlib.Omega.{arith}
@@ -10,24 +11,19 @@ use Rattle.build.proofs.Orders.fill.Reads as reads
 use Rattle.build.proofs.Orders.fill.Lts as lts
 use Rattle.build.proofs.Orders.with.Reads as with-reads
 
--- src/lib.rt:66:13
 with-requires : tie.Need-with-requires
 with-requires c κs = search needs
 
--- src/lib.rt:66:13
 returns : tie.Need-returns
 unfolding order-of
 returns c = (c .with .ensures .0 ∙ ap (λ v. orders-of (c .before .before .args .self) ++ v) (sym (filled-set _ (c .before .before .args .k) _ (c .before .if1 .taken))), omega (arith, c .with .ensures .1))
 
--- src/lib.rt:73:13
 returns-2 : tie.Need-returns-2
 returns-2 c = (sym (append-nil (orders-of (c .before .before .args .self))) ∙ ap (λ v. orders-of (c .before .before .args .self) ++ v) (sym (filled-none _ _ _ (c .before .if1 .left) (c .if2 .taken))), omega arith)
 
--- src/lib.rt:75:9
 with-requires-2 : tie.Need-with-requires-2
 with-requires-2 c κs = search needs
 
--- src/lib.rt:61:5
 returns-3 : tie.Need-returns-3
 unfolding order-of
 returns-3 c = (c .with2 .ensures .0 ∙ ap (λ v. orders-of (c .before .before .before .args .self) ++ v) (sym (filled-move _ _ _ (c .before .before .if1 .left) (c .before .if2 .left))), omega (arith, c .with2 .ensures .1))

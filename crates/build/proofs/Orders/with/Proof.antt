@@ -1,3 +1,4 @@
+-- `build::Orders::with` meets its contract. Assumes nothing.
 use mathlib.Core.Path.{_≡_, refl, sym, ap, _∙_}
 use native.Mathlib.Omega.{arith}
 use Rattle.explore.proofs.Bits.{unmapped}
@@ -8,19 +9,15 @@ use Rattle.build.proofs.Orders.with.Tie as tie
 use Rattle.build.proofs.Orders.with.Reads as reads
 use Rattle.build.proofs.Orders.with.Lts as lts
 
--- src/lib.rt:55:9
 mul-o : tie.Need-mul-o
 mul-o c = search needs
 
--- src/lib.rt:55:9
 element-set-from-o : tie.Need-element-set-from-o
 element-set-from-o c = search needs
 
--- src/lib.rt:56:18
 add-self : tie.Need-add-self
 add-self c = search needs
 
--- src/lib.rt:50:5
 returns : tie.Need-returns
 returns c =
     let len = unmapped _ (c .args .t1 .list) 64 (c .good .0 .1 .1 .1 .0 .1 .0 .1) in
