@@ -1,0 +1,12 @@
+pub mod Obeying
+pub mod Filling
+pub mod Telling
+pub mod Riding
+pub mod Answering
+pub mod Spots
+pub mod Entries
+pub mod Written
+pub mod Bounds
+pub mod Mounting
+pub mod Mounted
+pub mod Same

@@ -1,0 +1,174 @@
+-- The image that mounting writes of a taken table: each entry says its byte's row. Assumes nothing.
+use Prim.Native.Nat.{ℕ, zero, suc, _+_, _*_, _/_, _%_, _<_, _≤_}
+use native.Mathlib.Omega.{arith}
+use mathlib.Core.Path.{_≡_, refl, sym, ap, ap₂, _∙_, subst}
+use mathlib.Core.Bool.{Bool, true, false}
+use mathlib.Core.Logic.{_⊎_, inl, inr, ⊎-elim}
+use mathlib.Core.List.{List, [], _∷_}
+use lib.ListN.{length, getD}
+use lib.Dec.{leb, eqb}
+use borrow.Author.Tests.{eq-eqb, ne-eqb, le-leb, lt-leb, leb-true, leb-false}
+use Rattle.ground.specs.Pick.{pick}
+use Rattle.card.specs.Table.{Cmd, move, put, Row, Sets}
+use Rattle.card.specs.Run.{rowFor, noRow}
+use Rattle.card.specs.Decode.{cmdAt, cmdsAt, afterAt, rowAt, rowsAt}
+use Rattle.card.specs.declared.RowItem.{RowItem}
+use Rattle.card.specs.declared.RowItem.the-variants.{Leads, Ends}
+use Rattle.card.proofs.Common.{lt-or-le}
+use Rattle.card.proofs.Laws.{at-end}
+use Rattle.card.proofs.Rows.{row-whole, no-line, row-ends, row-here, row-later}
+use Rattle.run.proofs.Carrying.{no-cmds}
+use Rattle.ride.specs.Image.{nextOf, kindOf, listOf, entry, allSets, listKind, standing, spotAt, entryAt}
+use Rattle.ride.specs.Ride.{onlySets, orders, listless}
+use Rattle.ride.proofs.Spots.{after-past, spot-ends, spot-here, spot-later}
+use Rattle.ride.proofs.Entries.{entry-ends, entry-leads}
+use Rattle.ride.proofs.Riding.{stay-orders, stay-list}
+
+-- ---- SETs only
+
+pub sets-whole : (l : List Cmd) → Sets l → onlySets l ≡ l
+sets-whole [] h = refl
+sets-whole (move t f ∷ l) h = absurd h
+sets-whole (put t ∷ l) h = ap (λ (x : List Cmd). put t ∷ x) (sets-whole l h)
+
+all-whole : (l : List Cmd) → allSets l ≡ true → onlySets l ≡ l
+all-whole [] h = refl
+all-whole (move t f ∷ l) h = let z : _≡_ {A = ℕ} 0 1 = cc in absurd (omega arith)
+all-whole (put t ∷ l) h = ap (λ (x : List Cmd). put t ∷ x) (all-whole l h)
+
+-- where a list stands, there is a byte
+list-inside : (s : List ℕ) (at : ℕ) (c : Cmd) (l : List Cmd) → cmdsAt s at ≡ c ∷ l → at < length s
+list-inside s at c l e = by (lt-or-le at (length s))
+  where
+    by : (at < length s) ⊎ (length s ≤ at) → at < length s
+    by (inl h) = h
+    by (inr h) = let f = no-cmds s at (at-end s at h) in let z : _≡_ {A = ℕ} 0 1 = cc in absurd (omega arith)
+
+-- ---- the numbers of an entry come out of their bits
+
+module _ (next kind at : ℕ) where
+  pub entry-next : next < 128 → nextOf (entry next kind at) ≡ next
+  unfolding entry
+  entry-next h = omega arith
+
+  pub entry-kind : kind < 4 → kindOf (entry next kind at) ≡ kind
+  unfolding entry
+  entry-kind h = omega arith
+
+  pub entry-at : kind < 4 → at < 8388608 → listOf (entry next kind at) ≡ at
+  unfolding entry
+  entry-at h k = omega arith
+
+-- ---- an entry says a row
+
+pub record SaysRow (s : List ℕ) (e : ℕ) (x : Row) : Type 0 where
+  pub next : nextOf e ≡ x .next
+  pub orders : orders s e ≡ x .cmds
+  pub listed : listless s e ≡ false
+
+module _ (s : List ℕ) (next at : ℕ) (small : next < 128) (low : at < 8388608) where
+  module _ (c : Cmd) (l : List Cmd) (k : ℕ) (few : k < 4) (some : k ≡ 0 → ⊥) (e : cmdsAt s at ≡ c ∷ l) where
+    not-none : kindOf (entry next k at) ≡ 0 → ⊥
+    not-none z = some (sym (entry-kind next k at few) ∙ z)
+
+    is-listed : listless s (entry next k at) ≡ false
+    unfolding pick listless
+    is-listed =
+        let i = list-inside s at c l e in
+        ap (λ (b : Bool). pick b false (leb (length s) (listOf (entry next k at)))) (ne-eqb (kindOf (entry next k at)) 0 not-none)
+        ∙ lt-leb (length s) (listOf (entry next k at)) (omega (arith, entry-at next k at few low))
+
+    has-orders : (b : Bool) → eqb (kindOf (entry next k at)) 1 ≡ b → orders s (entry next k at) ≡ pick b (onlySets (cmdsAt s at)) (cmdsAt s at)
+    unfolding pick orders
+    has-orders b h =
+        ap (λ (x : Bool). pick x [] (pick (eqb (kindOf (entry next k at)) 1) (onlySets (cmdsAt s (listOf (entry next k at)))) (cmdsAt s (listOf (entry next k at)))))
+        (ne-eqb (kindOf (entry next k at)) 0 not-none)
+        ∙ ap₂ (λ (x : Bool) (n : ℕ). pick x (onlySets (cmdsAt s n)) (cmdsAt s n)) h (entry-at next k at few low)
+
+  abbrev says : List Cmd → Type 0
+  says l = SaysRow s (entry next (listKind l) (standing l at)) (record { lo = 0; hi = 0; next = next; cmds = l })
+
+  by-kind : (c : Cmd) (l : List Cmd) → cmdsAt s at ≡ c ∷ l → (b : Bool) → allSets (c ∷ l) ≡ b
+      → SaysRow s (entry next (pick b 1 2) at) (record { lo = 0; hi = 0; next = next; cmds = c ∷ l })
+  unfolding pick
+  by-kind c l e true h = record {
+    next = entry-next next 1 at small;
+    orders =
+        has-orders c l 1 (omega arith) (λ z. omega arith) e true (eq-eqb (kindOf (entry next 1 at)) 1 (entry-kind next 1 at (omega arith)))
+        ∙ ap onlySets e ∙ all-whole (c ∷ l) h;
+    listed = is-listed c l 1 (omega arith) (λ z. omega arith) e;
+  }
+  by-kind c l e false h = record {
+    next = entry-next next 2 at small;
+    orders =
+        has-orders c l 2 (omega arith) (λ z. omega arith) e false
+        (ne-eqb (kindOf (entry next 2 at)) 1 (λ z. let k = entry-kind next 2 at (omega arith) in omega arith))
+        ∙ e;
+    listed = is-listed c l 2 (omega arith) (λ z. omega arith) e;
+  }
+
+  plain : entry next 0 0 ≡ next
+  unfolding entry
+  plain = omega arith
+
+  pub says-list : (l : List Cmd) → cmdsAt s at ≡ l → says l
+  says-list [] e =
+      subst (λ (n : ℕ). SaysRow s n (record { lo = 0; hi = 0; next = next; cmds = [] })) (sym plain)
+      (record { next = omega arith; orders = stay-orders s next small; listed = stay-list s next small })
+  says-list (c ∷ l) e = by-kind c l e (allSets (c ∷ l)) refl
+
+-- ---- the entry of a byte's row
+
+module _ (s : List ℕ) (short : length s < 8388608) where
+  no-entry : SaysRow s 0 noRow
+  no-entry = record { next = refl; orders = stay-orders s 0 (omega arith); listed = stay-list s 0 (omega arith) }
+
+  -- a row that says the same but for its bounds
+  bounds-free : {e : ℕ} (lo hi next : ℕ) (l : List Cmd)
+      → SaysRow s e (record { lo = 0; hi = 0; next = next; cmds = l }) → SaysRow s e (record { lo = lo; hi = hi; next = next; cmds = l })
+  bounds-free lo hi next l r = record { next = r .next; orders = r .orders; listed = r .listed }
+
+  row-says : (at lo hi next : ℕ) → rowAt s at ≡ Leads lo hi next → next < 128
+      → SaysRow s (entryAt s at) (record { lo = lo; hi = hi; next = next; cmds = cmdsAt s (at + 4) })
+  row-says at lo hi next e small =
+      let w = row-whole s at lo hi next e in
+      subst (λ (n : ℕ). SaysRow s n (record { lo = lo; hi = hi; next = next; cmds = cmdsAt s (at + 4) })) (entry-leads s at lo hi next e)
+      (bounds-free lo hi next (cmdsAt s (at + 4)) (says-list s next (at + 4) small (omega arith) (cmdsAt s (at + 4)) refl))
+
+  module _ (b : ℕ) where
+    Tells : ℕ → Type 0
+    Tells at = rowFor (rowsAt s at) b .next < 128 → SaysRow s (entryAt s (spotAt s at b)) (rowFor (rowsAt s at) b)
+
+    tells-none : (at : ℕ) → rowAt s at ≡ Ends → Tells at
+    unfolding Tells
+    tells-none at e small =
+        subst (λ (x : Row). SaysRow s (entryAt s (spotAt s at b)) x) (row-ends s at b e)
+        (subst (λ (n : ℕ). SaysRow s n noRow)
+        (entry-ends s (length s) (no-line s (length s) (omega arith)) ∙ sym (ap (entryAt s) (spot-ends s b at e))) no-entry)
+
+    tells-row : (at lo hi next : ℕ) → rowAt s at ≡ Leads lo hi next → Tells (afterAt s (at + 4)) → (t : Bool) → leb b hi ≡ t → Tells at
+    unfolding Tells
+    tells-row at lo hi next e more true k small =
+        let h = leb-true b hi k in
+        let r = row-here s at b lo hi next e h in
+        subst (λ (x : Row). SaysRow s (entryAt s (spotAt s at b)) x) r
+        (subst (λ (n : ℕ). SaysRow s (entryAt s n) (record { lo = lo; hi = hi; next = next; cmds = cmdsAt s (at + 4) })) (sym (spot-here s b at lo hi next e h))
+        (row-says at lo hi next e (omega (arith, ap (λ (x : Row). x .next) r))))
+    tells-row at lo hi next e more false k small =
+        let h = leb-false b hi k in
+        let r = row-later s at b lo hi next e h in
+        subst (λ (x : Row). SaysRow s (entryAt s (spotAt s at b)) x) r
+        (subst (λ (n : ℕ). SaysRow s (entryAt s n) (rowFor (rowsAt s (afterAt s (at + 4))) b)) (sym (spot-later s b at lo hi next e h))
+        (more (omega (arith, ap (λ (x : Row). x .next) r))))
+
+    tells-item : (at : ℕ) (x : RowItem) → rowAt s at ≡ x → Tells (afterAt s (at + 4)) → Tells at
+    tells-item at Ends e more = tells-none at e
+    tells-item at (Leads lo hi next) e more = tells-row at lo hi next e more (leb b hi) refl
+
+    from : (n at : ℕ) → length s ≤ at + n → Tells at
+    from zero at h = tells-none at (no-line s at (omega arith))
+    from (suc n) at h = let g = after-past s at in tells-item at (rowAt s at) refl (from n (afterAt s (at + 4)) (omega arith))
+
+    pub spot-says : (at : ℕ) → rowFor (rowsAt s at) b .next < 128 → SaysRow s (entryAt s (spotAt s at b)) (rowFor (rowsAt s at) b)
+    unfolding Tells
+    spot-says at small = from (length s) at (omega arith) small

@@ -1,0 +1,32 @@
+-- `ride::imaging::packed` meets its contract. Assumes nothing.
+use mathlib.Core.Path.{_≡_, refl}
+use Rattle.ride.specs.Image.{entry}
+use borrow.Author.Needs.{needs}
+use Rattle.ride.proofs.imaging.packed.Statement.{statement}
+use Rattle.ride.proofs.imaging.packed.Tie as tie
+
+cast-n : tie.Need-cast-n
+cast-n c = search needs
+
+cast-a : tie.Need-cast-a
+cast-a c = search needs
+
+mul-result : tie.Need-mul-result
+mul-result c = search needs
+
+add-result : tie.Need-add-result
+add-result c = search needs
+
+mul-result-2 : tie.Need-mul-result-2
+mul-result-2 c = search needs
+
+add-result-2 : tie.Need-add-result-2
+add-result-2 c = search needs
+
+returns : tie.Need-returns
+unfolding entry
+returns c = refl
+
+pub packed-spec : {M : Type 1} → statement M
+packed-spec =
+    tie.close (tie.spec cast-n cast-a mul-result add-result mul-result-2 add-result-2 returns)
