@@ -1,0 +1,17 @@
+pub mod Common
+pub mod SetRun
+pub mod Names
+pub mod SetSpelled
+pub mod SetHeard
+pub mod SetPlace
+pub mod Machine
+pub mod Runs
+pub mod Parts
+pub mod Tracked
+pub mod Atoms
+pub mod Track
+pub mod Begun
+pub mod Place
+pub mod Spelled
+pub mod ReadSpells
+pub mod Answered
