@@ -1,25 +1,22 @@
 -- The pattern maker's answer, in the words of the grammar: it is one of the cases of document 01's checks, and there is one such answer.
 -- Assumes nothing.
-use Prim.Native.Nat.{ℕ, zero, suc, _+_, _≤_, _<_}
+use Prim.Native.Nat.{ℕ, _≤_, _<_}
 use mathlib.Core.Path.{_≡_, refl, sym, ap, subst, _∙_}
-use mathlib.Core.Bool.{Bool, true, false}
 use mathlib.Core.List.{List}
 use native.Mathlib.Omega.{arith}
 use native.Mathlib.Decide.{decLt, decLe}
 use lib.ListN.{length}
-use lib.Dec.{leb, ltb}
-use Rattle.ground.specs.Pick.{pick}
 use Rattle.ground.proofs.Picks.{pick-lt, pick-not-lt, pick-le, pick-not-le}
 use Rattle.net.specs.File.{Bytes}
 use Rattle.answers.specs.Answers.{PATTERN-LONG, PATTERN-FORM, PATTERN-DEEP, PATTERN-BIG, OUT-SMALL}
 use Rattle.pattern.specs.Pat.{Pat, size}
 use Rattle.pattern.specs.Reader.{Res, alts, read}
 use Rattle.pattern.specs.Reader.Res.{ok, form, deep}
-use Rattle.pattern.specs.Grammar.{Spells, FormAt, DeepAt}
+use Rattle.pattern.specs.Grammar.{FormAt, DeepAt}
 use Rattle.pattern.specs.Maker as maker
 use Rattle.pattern.specs.Maker.{Given, refuse, written, file, judged}
 use Rattle.grammar.specs.Answer as answer
-use Rattle.grammar.specs.Answer.{Shallow, Good, Answered}
+use Rattle.grammar.specs.Answer.{Good, Answered}
 use Rattle.grammar.proofs.Place.{one-place, deep-before-form, form-place, close-place, whole-text, deep-place, deep-first, form-not-deep, close-not-deep, ok-not-deep}
 use Rattle.grammar.proofs.ReadSpells.{read-spells-16}
 

@@ -1,29 +1,29 @@
 -- Atoms that are no groups: what reading one says of the text. Assumes nothing.
-use Prim.Native.Nat.{ℕ, zero, suc, _+_, _-_, _≤_, _<_}
+use Prim.Native.Nat.{ℕ, _+_, _-_, _<_}
 use mathlib.Core.Path.{_≡_, refl, sym, ap, subst, _∙_}
-use mathlib.Core.List.{List, [], _∷_, _++_, append-assoc, append-nil}
-use mathlib.Core.Bool.{Bool, true, false, _||_, _&&_}
+use mathlib.Core.List.{List, [], _∷_, _++_, append-assoc}
+use mathlib.Core.Bool.{Bool, true, false}
 use native.Mathlib.Omega.{arith}
-use lib.ListN.{length, drop, length-append, length-drop}
+use lib.ListN.{length, drop, length-append}
 use lib.Seq.{drop-cons}
 use lib.Dec.{eqb, leb}
 use borrow.Author.Tests.{eqb-true, eqb-false, leb-true}
-use Rattle.ground.specs.Pick.{pick, look}
+use Rattle.ground.specs.Pick.{look}
 use Rattle.net.specs.File.{Bytes}
-use Rattle.pattern.specs.Pat.{Pat}
-use Rattle.pattern.specs.Sets.{Item, Step, fresh, bad, setOn, Scanned, listing, wrong, scan}
-use Rattle.pattern.specs.Reader.{Res, Lvl, atom, stops, repeating, barred, onByte, setRead, setFrom, setAt, onSet, onDot, tagged, isTag, onMark, escaped, onEsc, single}
+use Rattle.ground.proofs.Lists.{follows}
+use Rattle.pattern.specs.Sets.{Item, fresh, bad, setOn, Scanned, listing, wrong, scan}
+use Rattle.pattern.specs.Reader.{atom, stops, repeating, barred, onByte, setRead, setFrom, setAt, onSet, onDot, tagged, isTag, onMark, escaped, onEsc, single}
 use Rattle.pattern.specs.Grammar as grammar
-use Rattle.pattern.specs.Grammar.{Ordinary, special}
-use Rattle.pattern.proofs.Laws.{in-text, byte-in, byte-of, false-in}
-use Rattle.grammar.proofs.Common.{true-false, either-no, no-either, both-yes, byte-at, bytes-from}
+use Rattle.pattern.specs.Grammar.{special}
+use Rattle.pattern.proofs.Laws.{true-false, in-text, byte-of, false-in}
+use Rattle.grammar.proofs.Common.{either-no, no-either, both-yes, byte-at, bytes-from}
 use Rattle.grammar.proofs.SetRun.{setRun, got, Going, Stuck}
 use Rattle.grammar.proofs.SetHeard.{Sofar}
 use Rattle.grammar.proofs.SetPlace.{Listed, Broken, scan-listing, scan-wrong}
-use Rattle.grammar.proofs.Machine.{St, at, esc, mark, box, inset, dead, into, again, boxOn, tagEnd, s0, s8, on, run, on-last, inset-run, stand, box-run}
-use Rattle.grammar.proofs.Runs.{Low, low-one, inset-low, box-low, Room}
-use Rattle.grammar.proofs.Parts.{Part, no-bytes, one-byte, two-bytes, byte-then, this-byte, rest-of, part-of}
-use Rattle.grammar.proofs.Tracked.{Alive, Final, Fail, Fails, Found, Dives, Track}
+use Rattle.grammar.proofs.Machine.{at, esc, mark, inset, dead, into, again, boxOn, tagEnd, s0, s8, on, on-last, inset-run, stand, box-run}
+use Rattle.grammar.proofs.Runs.{inset-low, box-low}
+use Rattle.grammar.proofs.Parts.{Part, no-bytes, one-byte, two-bytes, byte-then, this-byte, part-of}
+use Rattle.grammar.proofs.Tracked.{Alive, Final, Track}
 
 -- where the machine stands within a set without `^`
 stand-alive : (k : ℕ) (w : List ℕ) → Going (setRun fresh w) → Sofar w (setRun fresh w) (got fresh w) → Alive (stand k w)
@@ -41,7 +41,7 @@ stand-stuck k (a ∷ w) c n e = ap (into k) e
 -- the byte at the place of the fault
 stuck-byte : (s : List ℕ) (i q : ℕ) → (h : Broken (drop i s) i q) → q < length s → setOn (setRun fresh (h .word)) (look s q) ≡ bad
 stuck-byte s i q h l =
-    let r : h .rest ≡ drop q s = sym (rest-of s i (h .word) (h .rest) (h .parts)) ∙ ap (λ k. drop k s) (sym (h .place)) in
+    let r : h .rest ≡ drop q s = sym (follows s (h .word) (h .rest) i (h .parts)) ∙ ap (λ k. drop k s) (sym (h .place)) in
     subst (Stuck (setRun fresh (h .word))) (r ∙ drop-cons s q 256 l) (h .stuck)
 
 -- the text of a set that is found

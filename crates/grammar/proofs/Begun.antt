@@ -1,8 +1,8 @@
 -- What the machine says of a whole text: where it ends the text is legal, where it goes on some legal pattern begins. Assumes nothing.
-use Prim.Native.Nat.{ℕ, zero, suc, _+_, _-_, _≤_, _<_}
+use Prim.Native.Nat.{ℕ, zero, suc, _≤_, _<_}
 use mathlib.Core.Path.{_≡_, refl, sym, ap, subst, _∙_}
-use mathlib.Core.List.{List, [], _∷_, _++_, append-assoc, append-nil}
-use mathlib.Core.Bool.{Bool, true, false, _||_}
+use mathlib.Core.List.{List, _∷_, _++_, append-assoc, append-nil}
+use mathlib.Core.Bool.{Bool, true, false}
 use native.Mathlib.Omega.{arith}
 use native.Mathlib.Decide.{decLt}
 use lib.ListN.{length, take, drop, replicate, drop-of-length-le, take-append-drop}
@@ -15,14 +15,13 @@ use Rattle.pattern.specs.Pat.{Pat}
 use Rattle.pattern.specs.Sets.{setOn}
 use Rattle.pattern.specs.Reader.{Res, ok, form, deep, alts, read}
 use Rattle.pattern.specs.Grammar.{Spells, Legal, Begins}
-use Rattle.pattern.proofs.Laws.{Good, read-good}
-use Rattle.grammar.proofs.Common.{true-false, or-left, byte-at, bytes-both}
-use Rattle.grammar.proofs.SetRun.{setRun}
-use Rattle.grammar.proofs.SetHeard.{Completed, completed}
+use Rattle.pattern.proofs.Laws.{true-false, Good, read-good}
+use Rattle.grammar.proofs.Common.{or-left, byte-at, bytes-both}
+use Rattle.grammar.proofs.SetHeard.{completed}
 use Rattle.grammar.proofs.Machine.{St, at, esc, mark, box, inset, dead, into, on, run, run-append, run-dead, inset-run}
 use Rattle.grammar.proofs.Runs.{runs}
 use Rattle.grammar.proofs.Parts.{Part}
-use Rattle.grammar.proofs.Tracked.{Alive, Final, Fail, Fails, Found, Dives, Track}
+use Rattle.grammar.proofs.Tracked.{Alive, Final, Fail, Found, Track}
 use Rattle.grammar.proofs.Track.{track}
 
 pub dead-at : {k : ℕ} {b : Bool} → dead ≡ at k b → ⊥

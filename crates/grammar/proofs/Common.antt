@@ -1,17 +1,15 @@
 -- Laws of tests, bytes and lists that any crate may use. Assumes nothing.
-use Prim.Native.Nat.{ℕ, zero, suc, _+_, _-_, _≤_, _<_}
-use mathlib.Core.Path.{_≡_, refl, sym, ap, subst, _∙_}
+use Prim.Native.Nat.{ℕ, zero, suc, _<_}
+use mathlib.Core.Path.{_≡_, refl, sym, ap, _∙_}
 use mathlib.Core.Bool.{Bool, true, false, _||_, _&&_}
 use mathlib.Core.List.{List, [], _∷_, _++_}
-use native.Mathlib.Omega.{arith}
-use native.Mathlib.Nat.{not-suc-le-zero, le-of-suc-le-suc}
-use lib.ListN.{length, getD, drop}
-use lib.Dec.{T}
+use lib.ListN.{length, drop}
+use lib.Dec.{T, ltb}
+use borrow.Author.Tests.{ltb-true}
 use Rattle.ground.specs.Pick.{look}
 use Rattle.net.specs.File.{Bytes}
-
-pub true-false : _≡_ {A = Bool} true false → ⊥
-true-false z = subst T z tt
+use Rattle.net.proofs.Common.{every-at}
+use Rattle.pattern.proofs.Laws.{true-false}
 
 pub T-true : (b : Bool) → T b → b ≡ true
 T-true true t = refl
@@ -47,11 +45,18 @@ bytes-both [] w a b = b
 bytes-both (c ∷ v) w a b = (a .0, bytes-both v w (a .1) b)
 
 pub byte-at : (s : List ℕ) (i : ℕ) → Bytes s → i < length s → look s i < 256
-byte-at [] i b h = absurd (not-suc-le-zero h)
-byte-at (c ∷ s) zero b h = b .0
-byte-at (c ∷ s) (suc i) b h = byte-at s i (b .1) (le-of-suc-le-suc h)
+byte-at s i b h = every-at (λ (c : ℕ). c < 256) s b 256 i h
 
 pub bytes-from : (i : ℕ) (s : List ℕ) → Bytes s → Bytes (drop i s)
 bytes-from zero s b = b
 bytes-from (suc i) [] b = tt
 bytes-from (suc i) (c ∷ s) b = bytes-from i s (b .1)
+
+-- bytes, by a test
+abbrev pub small : List ℕ → Bool
+small [] = true
+small (c ∷ w) = ltb c 256 && small w
+
+pub bytes-of : (w : List ℕ) → small w ≡ true → Bytes w
+bytes-of [] e = tt
+bytes-of (c ∷ w) e = let b = both-yes (ltb c 256) (small w) e in (ltb-true c 256 (b .0), bytes-of w (b .1))

@@ -15,3 +15,4 @@ pub mod Place
 pub mod Spelled
 pub mod ReadSpells
 pub mod Answered
+pub mod Examples

@@ -1,16 +1,16 @@
 -- Pattern text byte by byte, with a count of the open groups: what stands between the grammar and the reader. Assumes nothing.
-use Prim.Native.Nat.{ℕ, zero, suc, _+_, _≤_, _<_}
-use mathlib.Core.Path.{_≡_, refl, sym, ap, subst, _∙_}
+use Prim.Native.Nat.{ℕ, zero, suc}
+use mathlib.Core.Path.{_≡_, refl, ap, subst, _∙_}
 use mathlib.Core.List.{List, [], _∷_, _++_}
-use mathlib.Core.Bool.{Bool, true, false, _||_}
+use mathlib.Core.Bool.{Bool, true, false}
 use native.Mathlib.Omega.{arith}
 use lib.Dec.{eqb}
 use borrow.Author.Tests.{ne-eqb}
 use Rattle.ground.specs.Pick.{pick}
-use Rattle.pattern.specs.Sets.{Item, Step, fresh, ready, held, quote, dash, dash-quote, name, shut, bad, setOn}
+use Rattle.pattern.specs.Sets.{Step, fresh, ready, held, quote, dash, dash-quote, name, shut, bad, setOn}
 use Rattle.pattern.specs.Reader.{stops, repeating, barred, isTag}
-use Rattle.pattern.specs.Grammar.{Ordinary, special}
-use Rattle.grammar.proofs.Common.{true-false, either-no, no-either}
+use Rattle.pattern.specs.Grammar.{Ordinary}
+use Rattle.grammar.proofs.Common.{either-no, no-either}
 use Rattle.grammar.proofs.SetRun.{setRun, run-bad, Going, going-first}
 
 -- k groups open; at: between atoms, and whether the last byte ended an atom that has no repetition; after `\`; after `@`; after `[`; in a set; no pattern goes on

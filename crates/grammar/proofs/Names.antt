@@ -1,18 +1,19 @@
 -- The words of the classes: what `seek` says of bytes, and the walk over a word. Assumes nothing.
-use Prim.Native.Nat.{ℕ, zero, suc, _+_, _≤_, _<_}
-use mathlib.Core.Path.{_≡_, refl, sym, ap, subst, _∙_}
-use mathlib.Core.Bool.{Bool, true, false, _&&_}
+use Prim.Native.Nat.{ℕ, suc, _+_, _<_}
+use mathlib.Core.Path.{_≡_, refl, sym, ap, _∙_}
+use mathlib.Core.Bool.{Bool, true, false}
 use mathlib.Core.List.{List, [], _∷_, _++_}
 use native.Mathlib.Omega.{arith}
 use lib.ListN.{length, getD}
-use lib.Dec.{T, eqb, ltb}
-use borrow.Author.Tests.{eqb-true, ltb-true}
+use lib.Dec.{eqb}
+use borrow.Author.Tests.{eqb-true}
 use Rattle.ground.specs.Pick.{pick}
 use Rattle.ground.proofs.Picks.{picked, passed}
 use Rattle.ground.proofs.Tested.{tested-below}
 use Rattle.net.specs.File.{Bytes}
 use Rattle.pattern.specs.Sets.{Item, span, class, Step, fresh, ready, held, quote, dash, dash-quote, name, shut, bad, setOn, gained, Named, whole, begun, none, names, wordOf, against, orElse, seek}
-use Rattle.grammar.proofs.Common.{true-false, T-true, both-yes}
+use Rattle.pattern.proofs.Laws.{true-false}
+use Rattle.grammar.proofs.Common.{T-true, small, bytes-of}
 use Rattle.grammar.proofs.SetRun.{setRun, got}
 
 -- A word of a class leads from its `[` to a complete item, that class. Twelve words, each computed.
@@ -49,14 +50,6 @@ class-is k [] e = absurd (true-false (sym e))
 class-is k (span c d ∷ xs) e = absurd (true-false (sym e))
 class-is k (class j ∷ []) e = ap (λ n. class n ∷ []) (eqb-true j k e)
 class-is k (class j ∷ (x ∷ xs)) e = absurd (true-false (sym e))
-
-abbrev small : List ℕ → Bool
-small [] = true
-small (c ∷ w) = ltb c 256 && small w
-
-bytes-of : (w : List ℕ) → small w ≡ true → Bytes w
-bytes-of [] e = tt
-bytes-of (c ∷ w) e = let b = both-yes (ltb c 256) (small w) e in (ltb-true c 256 (b .0), bytes-of w (b .1))
 
 module _ (k : ℕ) (h : k < 12) where
   pub word-bytes : Bytes (wordOf (getD names k []))

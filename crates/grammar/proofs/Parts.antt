@@ -1,12 +1,13 @@
 -- The part of a text from one place up to another. Assumes nothing.
-use Prim.Native.Nat.{ℕ, zero, suc, _+_, _-_, _≤_, _<_}
+use Prim.Native.Nat.{ℕ, _+_, _≤_, _<_}
 use mathlib.Core.Path.{_≡_, refl, sym, ap, subst, _∙_}
-use mathlib.Core.List.{List, [], _∷_, _++_, append-assoc, append-nil}
+use mathlib.Core.List.{List, [], _∷_, _++_, append-assoc}
 use native.Mathlib.Omega.{arith}
 use native.Mathlib.Numerals.{add-one}
-use lib.ListN.{length, getD, take, drop, length-append, length-drop}
-use lib.Seq.{drop-cons, drop-drop, drop-append-seam, take-at}
+use lib.ListN.{length, take, drop, length-append, length-drop}
+use lib.Seq.{drop-cons, take-at}
 use Rattle.ground.specs.Pick.{look}
+use Rattle.ground.proofs.Lists.{follows}
 use Rattle.pattern.proofs.Laws.{byte-of}
 
 -- the bytes from i up to e are w
@@ -36,12 +37,9 @@ byte-then s i e c w small h p = join s i (i + 1) e (c ∷ []) w (this-byte s i c
 pub then-byte : (s : List ℕ) (i e c : ℕ) (w : List ℕ) → c < 256 → Part s i e w → look s e ≡ c → Part s i (e + 1) (w ++ c ∷ [])
 then-byte s i e c w small x h = join s i e (e + 1) w (c ∷ []) x (this-byte s e c small h)
 
--- what stands at i in the text, as a list
-pub rest-of : (s : List ℕ) (i : ℕ) (w r : List ℕ) → drop i s ≡ w ++ r → drop (i + length w) s ≡ r
-rest-of s i w r e = sym (drop-drop (length w) i s) ∙ ap (drop (length w)) e ∙ drop-append-seam w r
-
+-- the bytes at i are w and then more
 pub part-of : (s : List ℕ) (i e : ℕ) (w r : List ℕ) → drop i s ≡ w ++ r → e ≡ i + length w → Part s i e w
-part-of s i e w r h n = record { parts = h ∙ ap (λ l. w ++ l) (sym (ap (λ k. drop k s) n ∙ rest-of s i w r h)) }
+part-of s i e w r h n = record { parts = h ∙ ap (λ l. w ++ l) (sym (ap (λ k. drop k s) n ∙ follows s w r i h)) }
 
 -- the length of a part from the start, and the part as a front of the text
 pub part-length : (s : List ℕ) (q : ℕ) (w : List ℕ) → q ≤ length s → Part s 0 q w → length w ≡ q

@@ -1,26 +1,26 @@
 -- The places of PATTERN_FORM and PATTERN_DEEP: the reader's are the grammar's. Assumes nothing.
-use Prim.Native.Nat.{ℕ, zero, suc, _+_, _-_, _≤_, _<_}
-use mathlib.Core.Path.{_≡_, refl, sym, ap, subst, _∙_}
-use mathlib.Core.List.{List, [], _∷_, _++_, append-assoc, append-nil}
-use mathlib.Core.Bool.{Bool, true, false}
+use Prim.Native.Nat.{ℕ, zero, suc, _+_, _≤_, _<_}
+use mathlib.Core.Path.{_≡_, sym, ap, subst, _∙_}
+use mathlib.Core.List.{List, [], _∷_, _++_}
+use mathlib.Core.Bool.{Bool, false}
 use native.Mathlib.Omega.{arith}
 use native.Mathlib.Numerals.{add-one}
 use native.Mathlib.Decide.{decLt}
-use lib.ListN.{length, getD, take, drop, take-append-drop}
-use lib.Seq.{take-suc, take-take, length-take-le}
+use lib.ListN.{length, take, drop, take-append-drop}
+use lib.Seq.{take-suc, take-take}
 use Rattle.ground.specs.Pick.{look}
 use Rattle.net.specs.File.{Bytes}
 use Rattle.pattern.specs.Pat.{Pat}
-use Rattle.pattern.specs.Reader.{Res, ok, form, deep, alts, read}
-use Rattle.pattern.specs.Grammar.{Spells, Legal, Begins, FormAt, Open, DeepAt}
-use Rattle.pattern.proofs.Laws.{Good, Went, went, read-good, byte-of, same-default}
-use Rattle.grammar.proofs.Common.{true-false, bytes-front}
-use Rattle.grammar.proofs.Machine.{St, at, dead, on, run, run-append}
-use Rattle.grammar.proofs.Runs.{runs, Fit, fit-low, depth, Low, low-at, Room}
+use Rattle.pattern.specs.Reader.{ok, form, deep, alts, read}
+use Rattle.pattern.specs.Grammar.{Spells, FormAt, Open, DeepAt}
+use Rattle.pattern.proofs.Laws.{true-false, Good, Went, went, read-good, byte-of, same-default}
+use Rattle.grammar.proofs.Common.{bytes-front}
+use Rattle.grammar.proofs.Machine.{St, at, on, run, run-append}
+use Rattle.grammar.proofs.Runs.{runs, fit-low, depth, Low, low-at, Room}
 use Rattle.grammar.proofs.Parts.{Part, part-front}
 use Rattle.grammar.proofs.Tracked.{Fail, Found, Dives, Track}
 use Rattle.grammar.proofs.Track.{track}
-use Rattle.grammar.proofs.Begun.{start, dead-at, no-end, close-only, whole-word, begins-of, dead-begins, shorter}
+use Rattle.grammar.proofs.Begun.{start, no-end, close-only, whole-word, begins-of, dead-begins, shorter}
 
 bytes-take : (s : List ℕ) (q : ℕ) → Bytes s → Bytes (take q s)
 bytes-take s q bs = bytes-front (take q s) (drop q s) (subst Bytes (sym (take-append-drop q s)) bs)
@@ -131,6 +131,10 @@ module _ (s : List ℕ) (bs : Bytes s) where
       let f = dived q r in
       let l = byte-of s q 40 (omega arith) (f .brace) in
       record { within = l; opens = same-default s 0 256 q l ∙ f .brace; inside = subst (Open 16) (sym (part-front s q (f .word) (omega arith) (f .part))) (f .opened) }
+
+  -- no group is too deep where there is no limit
+  pub never-deep : (d q : ℕ) → 16 < d → read s alts d 0 ≡ deep q → ⊥
+  never-deep d q h r = let f : Dives s d 0 q = subst (Track s alts d 0) r (track s bs d) in let l = f .few in omega arith
 
   -- and it is the first
   pub deep-first : (q : ℕ) → read s alts 0 0 ≡ deep q → (k : ℕ) → DeepAt s k → k < q → ⊥

@@ -1,19 +1,19 @@
 -- What the machine does with the words of the grammar, and how deep it goes. Assumes nothing.
-use Prim.Native.Nat.{ℕ, zero, suc, _+_, _-_, _≤_, _<_}
+use Prim.Native.Nat.{ℕ, suc, _+_, _≤_, _<_}
 use mathlib.Core.Path.{_≡_, refl, sym, ap, subst, _∙_}
-use mathlib.Core.List.{List, [], _∷_, _++_, append-assoc, append-nil}
+use mathlib.Core.List.{List, [], _∷_, _++_}
 use mathlib.Core.Bool.{Bool, true, false, _&&_}
 use native.Mathlib.Omega.{arith}
-use lib.Dec.{eqb, leb}
+use lib.Dec.{leb}
 use borrow.Author.Tests.{le-leb}
 use Rattle.ground.specs.Pick.{pick}
 use Rattle.pattern.specs.Pat.{Pat}
 use Rattle.pattern.specs.Sets.{Item, Step, fresh, shut, bad, setOn}
-use Rattle.pattern.specs.Reader.{Lvl, alts, seq, piece, atom, repeating, isTag}
+use Rattle.pattern.specs.Reader.{Lvl, alts, seq, piece, atom, repeating}
 use Rattle.pattern.specs.Grammar as grammar
-use Rattle.pattern.specs.Grammar.{Spells, ItemsSpell, SetSpells, Legal, Open}
+use Rattle.pattern.specs.Grammar.{Spells, ItemsSpell, SetSpells}
 use Rattle.grammar.proofs.SetRun.{setRun, Going, going-first}
-use Rattle.grammar.proofs.SetSpelled.{SetRun, set-run}
+use Rattle.grammar.proofs.SetSpelled.{set-run}
 use Rattle.grammar.proofs.Machine.{St, at, esc, mark, box, inset, dead, into, tagEnd, boxOn, s0, on, run, run-append, ordinary, into-going, inset-run, stand, no-caret, box-run}
 
 -- a set has items

@@ -1,21 +1,20 @@
 -- The walk over bytes, from the grammar's side: what is spelled so far, how it can go on to a set, and what `scan` finds. Assumes nothing.
-use Prim.Native.Nat.{ℕ, zero, suc, _+_, _≤_, _<_}
+use Prim.Native.Nat.{ℕ, _≤_, _<_}
 use mathlib.Core.Path.{_≡_, refl, sym, ap, subst, _∙_}
-use mathlib.Core.Bool.{Bool, true, false, _||_}
+use mathlib.Core.Bool.{Bool, true, false}
 use mathlib.Core.List.{List, [], _∷_, _++_, append-assoc, append-nil}
 use native.Mathlib.Omega.{arith}
-use lib.ListN.{length, getD}
 use lib.Dec.{eqb, ltb}
 use borrow.Author.Tests.{eqb-true, ltb-false, le-ltb}
 use Rattle.ground.specs.Pick.{pick}
 use Rattle.ground.proofs.Picks.{picked, passed}
 use Rattle.net.specs.File.{Bytes}
 use Rattle.pattern.specs.Tests.{among}
-use Rattle.pattern.specs.Sets.{Item, span, class, Step, fresh, ready, held, quote, dash, dash-quote, name, shut, bad, item, ends, upto, after-name, class-of, setOn, gained, Named, whole, begun, none, names, wordOf, seek, Scanned, listing, wrong, scan}
-use Rattle.pattern.specs.Grammar.{Plain, CharSpells, itself, quoted, ItemSpells, char, chars, named, ItemsSpell, last-item, more-items}
-use Rattle.grammar.proofs.Common.{true-false, either-no, no-either, bytes-front, bytes-back, bytes-both}
-use Rattle.grammar.proofs.SetRun.{setRun, got, setRun-append, got-append, run-bad, Going, Heard, Broke, Stuck, Follow, follow}
-use Rattle.grammar.proofs.SetSpelled.{set-run, shuts}
+use Rattle.pattern.specs.Sets.{Item, span, class, Step, fresh, ready, held, quote, dash, dash-quote, name, shut, bad, item, ends, upto, after-name, class-of, setOn, gained, Named, whole, begun, none, names, seek}
+use Rattle.pattern.specs.Grammar.{CharSpells, itself, quoted, ItemSpells, char, chars, named, ItemsSpell, last-item, more-items}
+use Rattle.grammar.proofs.Common.{either-no, no-either, bytes-back}
+use Rattle.grammar.proofs.SetRun.{setRun, got, setRun-append, Going}
+use Rattle.grammar.proofs.SetSpelled.{shuts}
 use Rattle.grammar.proofs.Names.{word-bytes, word-run, seek-whole, seek-begun}
 
 -- none or some items

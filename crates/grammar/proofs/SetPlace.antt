@@ -1,16 +1,16 @@
 -- What `scan` finds is what the grammar spells, and its place of a fault is the grammar's. Assumes nothing.
-use Prim.Native.Nat.{ℕ, zero, suc, _+_, _≤_, _<_}
-use mathlib.Core.Path.{_≡_, refl, sym, ap, subst, _∙_}
-use mathlib.Core.List.{List, [], _∷_, _++_, append-assoc, append-nil}
+use Prim.Native.Nat.{ℕ, _+_}
+use mathlib.Core.Path.{_≡_, sym, ap, subst, _∙_}
+use mathlib.Core.List.{List, [], _∷_, _++_, append-assoc}
 use native.Mathlib.Omega.{arith}
 use lib.ListN.{length, length-append}
 use Rattle.net.specs.File.{Bytes}
-use Rattle.pattern.specs.Sets.{Item, Step, fresh, shut, bad, setOn, Scanned, listing, wrong, scan}
+use Rattle.pattern.specs.Sets.{Item, Step, fresh, shut, bad, setOn, listing, wrong, scan}
 use Rattle.pattern.specs.Grammar.{ItemsSpell}
 use Rattle.grammar.proofs.Common.{bytes-front}
 use Rattle.grammar.proofs.SetRun.{setRun, got, setRun-append, run-bad, Going, Heard, Broke, Stuck, Follow, follow}
-use Rattle.grammar.proofs.SetSpelled.{set-run, scan-spelled}
-use Rattle.grammar.proofs.SetHeard.{Sofar, nothing, sofar-run, Completed, completed}
+use Rattle.grammar.proofs.SetSpelled.{set-run}
+use Rattle.grammar.proofs.SetHeard.{Sofar, nothing, sofar-run, completed}
 
 -- A set that is found: its items are spelled, and a `]` follows.
 pub record Listed (w : List ℕ) (i e : ℕ) (ys : List Item) : Type 0 where

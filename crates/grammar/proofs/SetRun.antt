@@ -1,10 +1,10 @@
 -- The text of a set, byte by byte: where it stands after some bytes, and what they list. `scan` is this walk. Assumes nothing.
-use Prim.Native.Nat.{ℕ, zero, suc, _+_, _≤_, _<_}
+use Prim.Native.Nat.{ℕ, suc, _+_}
 use mathlib.Core.Path.{_≡_, refl, sym, ap, subst, _∙_}
 use mathlib.Core.List.{List, [], _∷_, _++_, append-assoc, append-nil}
 use native.Mathlib.Omega.{arith}
 use lib.ListN.{length}
-use Rattle.pattern.specs.Sets.{Item, span, class, Step, fresh, ready, held, quote, dash, dash-quote, name, shut, bad, setOn, gained, Scanned, listing, wrong, onward, scan}
+use Rattle.pattern.specs.Sets.{Item, Step, fresh, ready, held, quote, dash, dash-quote, name, shut, bad, setOn, gained, Scanned, listing, wrong, onward, scan}
 
 abbrev pub setRun : Step → List ℕ → Step
 setRun st [] = st

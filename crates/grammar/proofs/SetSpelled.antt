@@ -1,16 +1,15 @@
 -- The walk over items that are spelled: it goes on, and gains exactly these items. Assumes nothing.
-use Prim.Native.Nat.{ℕ, zero, suc, _+_, _≤_, _<_}
+use Prim.Native.Nat.{ℕ, _+_, _≤_}
 use mathlib.Core.Path.{_≡_, refl, sym, ap, subst, _∙_}
-use mathlib.Core.Bool.{Bool, true, false, _||_}
+use mathlib.Core.Bool.{false}
 use mathlib.Core.List.{List, [], _∷_, _++_, append-assoc, append-nil}
-use native.Mathlib.Omega.{arith}
 use lib.ListN.{length, getD}
-use lib.Dec.{eqb, ltb}
+use lib.Dec.{eqb}
 use borrow.Author.Tests.{le-ltb}
 use Rattle.ground.specs.Pick.{pick}
 use Rattle.ground.proofs.Picks.{picked, passed}
 use Rattle.pattern.specs.Tests.{among}
-use Rattle.pattern.specs.Sets.{Item, span, class, Step, fresh, ready, held, quote, dash, dash-quote, name, shut, bad, item, ends, upto, setOn, gained, names, wordOf, Scanned, listing, scan}
+use Rattle.pattern.specs.Sets.{Item, span, Step, fresh, ready, held, quote, dash, dash-quote, name, shut, bad, item, ends, upto, setOn, gained, names, wordOf, listing, scan}
 use Rattle.pattern.specs.Grammar.{Plain, CharSpells, itself, quoted, ItemSpells, char, chars, named, ItemsSpell, last-item, more-items}
 use Rattle.grammar.proofs.Common.{either-no, no-either}
 use Rattle.grammar.proofs.SetRun.{setRun, got, setRun-append, got-append, Going, scan-shut}

@@ -1,27 +1,25 @@
 -- What the grammar spells the reader reads, as that tree; so the tree is unique. Assumes nothing.
-use Prim.Native.Nat.{ℕ, zero, suc, _+_, _-_, _≤_, _<_}
-use mathlib.Core.Path.{_≡_, refl, sym, ap, subst, _∙_}
+use Prim.Native.Nat.{ℕ, suc, _+_, _-_, _≤_}
+use mathlib.Core.Path.{_≡_, refl, sym, ap, _∙_}
 use mathlib.Core.List.{List, [], _∷_, _++_, append-assoc, append-nil}
 use mathlib.Core.Bool.{Bool, true, false, _||_}
 use native.Mathlib.Omega.{arith}
-use lib.ListN.{length, getD, drop, length-append, length-drop}
+use lib.ListN.{length, drop, length-append, length-drop}
 use lib.Seq.{getD-drop}
 use lib.Dec.{eqb}
-use borrow.Author.Tests.{eqb-true, eqb-false, eq-eqb, ne-eqb}
+use borrow.Author.Tests.{eqb-true, eqb-false}
 use Rattle.ground.specs.Pick.{look}
-use Rattle.pattern.specs.Pat.{Pat, Empty, Byte, Any, Set, Tag, Seq, Alt, Star, Plus, Opt}
-use Rattle.pattern.specs.Sets.{Item, fresh, setOn, listing, scan, allows, maskOf}
-use Rattle.pattern.specs.Reader.{Res, ok, form, deep, Lvl, alts, seq, piece, atom, andThen, stops, repeating, barred, setRead, setFrom, setAt, repeated, closed, single, read}
+use Rattle.ground.proofs.Lists.{follows}
+use Rattle.pattern.specs.Pat.{Pat, Empty, Byte, Set, Tag, Seq, Alt, Star, Plus, Opt}
+use Rattle.pattern.specs.Sets.{Item, fresh, scan, allows, maskOf}
+use Rattle.pattern.specs.Reader.{ok, deep, Lvl, alts, seq, piece, atom, andThen, stops, repeating, barred, setRead, setFrom, setAt, repeated, closed, read}
 use Rattle.pattern.specs.Grammar as grammar
 use Rattle.pattern.specs.Grammar.{Spells, ItemsSpell, SetSpells}
-use Rattle.pattern.proofs.Laws.{alts-one, alts-more, seq-none, seq-some, piece-ok, atom-lone, atom-closed, single-escaped, single-tag, single-dot, single-set, single-plain}
+use Rattle.pattern.proofs.Laws.{true-false, alts-one, alts-more, seq-none, seq-some, piece-ok, atom-lone, atom-closed, single-escaped, single-tag, single-dot, single-set, single-plain}
 use Rattle.pattern.proofs.Steps.{once}
-use Rattle.grammar.proofs.Common.{true-false}
-use Rattle.grammar.proofs.SetRun.{setRun}
 use Rattle.grammar.proofs.SetSpelled.{set-run, scan-spelled}
 use Rattle.grammar.proofs.Machine.{passes, no-caret}
 use Rattle.grammar.proofs.Runs.{Fit, fit-far, not-empty}
-use Rattle.grammar.proofs.Parts.{rest-of}
 
 -- a byte that stops a sequence repeats nothing
 stop-free : (c : ℕ) → stops c ≡ true → repeating c ≡ false
@@ -99,10 +97,10 @@ module _ (s : List ℕ) where
   inside : (i : ℕ) (w r : List ℕ) → i ≤ length s → drop i s ≡ w ++ r → i + length w ≤ length s
   inside i w r h e = let a = ap length e in let b = length-drop i s in let c = length-append w r in omega arith
 
-  set-spelled : {w bits : List ℕ} → SetSpells w bits → (i : ℕ) (r : List ℕ) → drop i s ≡ w ++ r → setAt s i ≡ ok (i + length w) (Set bits)
+  pub set-spelled : {w bits : List ℕ} → SetSpells w bits → (i : ℕ) (r : List ℕ) → drop i s ≡ w ++ r → setAt s i ≡ ok (i + length w) (Set bits)
   unfolding setAt
   set-spelled (grammar.these {w = w} {xs = xs} h) i r e =
-      let e₁ : drop (i + 1) s ≡ w ++ 93 ∷ r = rest-of s i (91 ∷ []) ((w ++ 93 ∷ []) ++ r) e ∙ append-assoc w (93 ∷ []) r in
+      let e₁ : drop (i + 1) s ≡ w ++ 93 ∷ r = follows s (91 ∷ []) ((w ++ 93 ∷ []) ++ r) i e ∙ append-assoc w (93 ∷ []) r in
       let n : i + 1 + length w + 1 ≡ i + suc (length (w ++ 93 ∷ [])) = let a = length-append w (93 ∷ []) in omega arith in
       ap (λ b. setFrom b s i) (ap (λ c. eqb c 94) (look-at s (i + 1) (w ++ 93 ∷ r) e₁) ∙ no-caret-in w h)
       ∙ ap (λ l. setRead false (scan l (i + 1) fresh [])) e₁ ∙ ap (setRead false) (scan-spelled h r (i + 1)) ∙ ap (λ k. ok k (Set (maskOf (allows false xs)))) n
@@ -111,8 +109,8 @@ module _ (s : List ℕ) where
       no-caret-in [] g = absurd (not-empty g)
       no-caret-in (c ∷ v) g = no-caret c v (set-run g .going)
   set-spelled (grammar.others {w = w} {xs = xs} h) i r e =
-      let e₁ : drop (i + 1) s ≡ 94 ∷ ((w ++ 93 ∷ []) ++ r) = rest-of s i (91 ∷ []) (94 ∷ ((w ++ 93 ∷ []) ++ r)) e in
-      let e₂ : drop (i + 2) s ≡ w ++ 93 ∷ r = rest-of s i (91 ∷ 94 ∷ []) ((w ++ 93 ∷ []) ++ r) e ∙ append-assoc w (93 ∷ []) r in
+      let e₁ : drop (i + 1) s ≡ 94 ∷ ((w ++ 93 ∷ []) ++ r) = follows s (91 ∷ []) (94 ∷ ((w ++ 93 ∷ []) ++ r)) i e in
+      let e₂ : drop (i + 2) s ≡ w ++ 93 ∷ r = follows s (91 ∷ 94 ∷ []) ((w ++ 93 ∷ []) ++ r) i e ∙ append-assoc w (93 ∷ []) r in
       let n : i + 2 + length w + 1 ≡ i + suc (suc (length (w ++ 93 ∷ []))) = let a = length-append w (93 ∷ []) in omega arith in
       ap (λ b. setFrom b s i) (ap (λ c. eqb c 94) (look-at s (i + 1) _ e₁))
       ∙ ap (λ l. setRead true (scan l (i + 2) fresh [])) e₂ ∙ ap (setRead true) (scan-spelled h r (i + 2)) ∙ ap (λ k. ok k (Set (maskOf (allows true xs)))) n
@@ -120,7 +118,7 @@ module _ (s : List ℕ) where
   -- an atom's repetition
   repeat-spelled : (d i c : ℕ) (w : List ℕ) (p q : Pat) (r : List ℕ) → i ≤ length s → drop i s ≡ (w ++ c ∷ []) ++ r → ((e : ℕ) → repeated (eqb c 42) c e p ≡ ok (e + 1) q) → read s atom d i ≡ ok (i + length w) p → read s piece d i ≡ ok (i + length (w ++ c ∷ [])) q
   repeat-spelled d i c w p q r h e f g =
-      let a : look s (i + length w) ≡ c = look-at s (i + length w) (c ∷ r) (rest-of s i w (c ∷ r) (e ∙ append-assoc w (c ∷ []) r)) in
+      let a : look s (i + length w) ≡ c = look-at s (i + length w) (c ∷ r) (follows s w (c ∷ r) i (e ∙ append-assoc w (c ∷ []) r)) in
       let n : i + length w + 1 ≡ i + length (w ++ c ∷ []) = let b = length-append w (c ∷ []) in omega arith in
       piece-ok s d i h (i + length w) p g ∙ ap (λ x. repeated (eqb x 42) x (i + length w) p) a ∙ f (i + length w) ∙ ap (λ k. ok k q) n
 
@@ -128,11 +126,11 @@ module _ (s : List ℕ) where
   pub spelled : {l : Lvl} {w : List ℕ} {p : Pat} (x : Spells l w p) (d i : ℕ) (r : List ℕ) → i ≤ length s → drop i s ≡ w ++ r → Follows l (look r 0) → Fit x d → read s l d i ≡ ok (i + length w) p
   spelled (grammar.last-alt {w = w} {p = p} x) d i r h e f t =
       let a = after-stop (look r 0) f in
-      alts-one s d i h (i + length w) p (spelled x d i r h e (a .0) t) (λ c. a .1 (sym (look-at s (i + length w) r (rest-of s i w r e)) ∙ c))
+      alts-one s d i h (i + length w) p (spelled x d i r h e (a .0) t) (λ c. a .1 (sym (look-at s (i + length w) r (follows s w r i e)) ∙ c))
   spelled (grammar.more-alts {w = w} {v = v} {p = p} {q = q} x y) d i r h e f t =
       let e₀ : drop i s ≡ w ++ 124 ∷ (v ++ r) = e ∙ append-assoc w (124 ∷ v) r in
-      let e₁ = rest-of s i w (124 ∷ (v ++ r)) e₀ in
-      let e₂ : drop (i + length w + 1) s ≡ v ++ r = rest-of s (i + length w) (124 ∷ []) (v ++ r) e₁ in
+      let e₁ = follows s w (124 ∷ (v ++ r)) i e₀ in
+      let e₂ : drop (i + length w + 1) s ≡ v ++ r = follows s (124 ∷ []) (v ++ r) (i + length w) e₁ in
       let n : i + length w + 1 + length v ≡ i + length (w ++ 124 ∷ v) = let a = length-append w (124 ∷ v) in omega arith in
       let b : i + length w + 1 ≤ length s = let a = inside (i + length w) (124 ∷ []) (v ++ r) (inside i w (124 ∷ (v ++ r)) h e₀) e₁ in omega arith in
       alts-more s d i h (i + length w) p (spelled x d i (124 ∷ (v ++ r)) h e₀ refl (t .0)) (look-at s (i + length w) (124 ∷ (v ++ r)) e₁)
@@ -142,21 +140,21 @@ module _ (s : List ℕ) where
       seq-none s d i h (ap stops (look-at s i r e) ∙ f) ∙ ap (λ k. ok k Empty) n
   spelled (grammar.more {w = w} {v = v} {p = p} {q = q} x y) d i r h e f t =
       let e₀ : drop i s ≡ w ++ (v ++ r) = e ∙ append-assoc w v r in
-      let e₁ = rest-of s i w (v ++ r) e₀ in
+      let e₁ = follows s w (v ++ r) i e₀ in
       let b = starts x in
       let n : i + length w + length v ≡ i + length (w ++ v) = let a = length-append w v in omega arith in
       seq-some s d i h (ap stops (look-at s i (w ++ (v ++ r)) e₀) ∙ ap (λ l. stops (look (l ++ (v ++ r)) 0)) (b .is) ∙ b .unstopped)
       ∙ ap (λ z. andThen z (λ e p. andThen (read s seq d e) (λ e′ q. ok e′ (Seq p q)))) (spelled x d i (v ++ r) h e₀ (unrepeated y r f) (t .0))
       ∙ ap (λ z. andThen z (λ e′ q. ok e′ (Seq p q))) (spelled y d (i + length w) r (inside i w (v ++ r) h e₀) e₁ f (t .1)) ∙ ap (λ k. ok k (Seq p q)) n
   spelled (grammar.bare {w = w} {p = p} x) d i r h e f t =
-      piece-ok s d i h (i + length w) p (spelled x d i r h e tt t) ∙ once (look s (i + length w)) (i + length w) p (ap repeating (look-at s (i + length w) r (rest-of s i w r e)) ∙ f)
+      piece-ok s d i h (i + length w) p (spelled x d i r h e tt t) ∙ once (look s (i + length w)) (i + length w) p (ap repeating (look-at s (i + length w) r (follows s w r i e)) ∙ f)
   spelled (grammar.star {w = w} {p = p} x) d i r h e f t = repeat-spelled d i 42 w p (Star p) r h e (λ k. refl) (spelled x d i (42 ∷ r) h (e ∙ append-assoc w (42 ∷ []) r) tt t)
   spelled (grammar.plus {w = w} {p = p} x) d i r h e f t = repeat-spelled d i 43 w p (Plus p) r h e (λ k. refl) (spelled x d i (43 ∷ r) h (e ∙ append-assoc w (43 ∷ []) r) tt t)
   spelled (grammar.opt {w = w} {p = p} x) d i r h e f t = repeat-spelled d i 63 w p (Opt p) r h e (λ k. refl) (spelled x d i (63 ∷ r) h (e ∙ append-assoc w (63 ∷ []) r) tt t)
   spelled (grammar.group {w = w} {p = p} x) d i r h e f t =
-      let e₀ : drop (i + 1) s ≡ w ++ 41 ∷ r = rest-of s i (40 ∷ []) ((w ++ 41 ∷ []) ++ r) e ∙ append-assoc w (41 ∷ []) r in
+      let e₀ : drop (i + 1) s ≡ w ++ 41 ∷ r = follows s (40 ∷ []) ((w ++ 41 ∷ []) ++ r) i e ∙ append-assoc w (41 ∷ []) r in
       let b : i + 1 ≤ length s = inside i (40 ∷ []) ((w ++ 41 ∷ []) ++ r) h e in
-      let c : look s (i + 1 + length w) ≡ 41 = look-at s (i + 1 + length w) (41 ∷ r) (rest-of s (i + 1) w (41 ∷ r) e₀) in
+      let c : look s (i + 1 + length w) ≡ 41 = look-at s (i + 1 + length w) (41 ∷ r) (follows s w (41 ∷ r) (i + 1) e₀) in
       let n : i + 1 + length w + 1 ≡ i + suc (length (w ++ 41 ∷ [])) = let a = length-append w (41 ∷ []) in omega arith in
       atom-closed s d i h (i + 1 + length w) p (look-at s i _ e) (t .0) (spelled x (d + 1) (i + 1) (41 ∷ r) b e₀ refl (t .1))
       ∙ ap (λ x. closed (eqb x 41) (i + 1 + length w) p) c ∙ ap (λ k. ok k p) n
@@ -171,11 +169,11 @@ module _ (s : List ℕ) where
       atom-lone s d i h (λ z. let y : 46 ≡ 40 = sym a ∙ z in omega arith) ∙ single-dot s i a
   spelled (grammar.escaped {c = c} small) d i r h e f t =
       let a : look s i ≡ 92 = look-at s i (92 ∷ c ∷ r) e in
-      let b : look s (i + 1) ≡ c = look-at s (i + 1) (c ∷ r) (rest-of s i (92 ∷ []) (c ∷ r) e) in
+      let b : look s (i + 1) ≡ c = look-at s (i + 1) (c ∷ r) (follows s (92 ∷ []) (c ∷ r) i e) in
       atom-lone s d i h (λ z. let y : 92 ≡ 40 = sym a ∙ z in omega arith) ∙ single-escaped s i a (λ z. let y : c ≡ 256 = sym b ∙ z in omega arith) ∙ ap (λ x. ok (i + 2) (Byte x)) b
   spelled (grammar.tag {t = m} small) d i r h e f t =
       let a : look s i ≡ 64 = look-at s i (64 ∷ (m + 48) ∷ r) e in
-      let b : look s (i + 1) ≡ m + 48 = look-at s (i + 1) ((m + 48) ∷ r) (rest-of s i (64 ∷ []) ((m + 48) ∷ r) e) in
+      let b : look s (i + 1) ≡ m + 48 = look-at s (i + 1) ((m + 48) ∷ r) (follows s (64 ∷ []) ((m + 48) ∷ r) i e) in
       let c : look s (i + 1) - 48 ≡ m = omega arith in
       atom-lone s d i h (λ z. let y : 64 ≡ 40 = sym a ∙ z in omega arith) ∙ single-tag s i a (omega arith) (omega arith) ∙ ap (λ x. ok (i + 2) (Tag x)) c
   spelled (grammar.set {w = w} g) d i r h e f t =
@@ -196,3 +194,7 @@ read-legal s p x = read-spelled s p x 17 (fit-far x 17 (omega arith))
 -- The tree is unique.
 pub spells-one : (s : List ℕ) (p q : Pat) → Spells alts s p → Spells alts s q → p ≡ q
 spells-one s p q x y = let e : ok (length s) p ≡ ok (length s) q = sym (read-legal s p x) ∙ read-legal s q y in cc
+
+-- and so is the MASK of a set
+pub set-one : {w a b : List ℕ} → SetSpells w a → SetSpells w b → a ≡ b
+set-one {w} {a} {b} x y = let e : ok (0 + length w) (Set a) ≡ ok (0 + length w) (Set b) = sym (set-spelled w x 0 [] (sym (append-nil w))) ∙ set-spelled w y 0 [] (sym (append-nil w)) in cc

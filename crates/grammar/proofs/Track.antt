@@ -1,7 +1,7 @@
 -- Of every reading: what it says of the text, by the grammar and the machine. Assumes nothing.
-use Prim.Native.Nat.{ℕ, zero, suc, _+_, _-_, _*_, _≤_, _<_}
+use Prim.Native.Nat.{ℕ, zero, suc, _+_, _-_, _≤_, _<_}
 use mathlib.Core.Path.{_≡_, refl, sym, ap, subst, _∙_}
-use mathlib.Core.List.{List, [], _∷_, _++_, append-assoc, append-nil}
+use mathlib.Core.List.{List, [], _∷_, _++_}
 use mathlib.Core.Bool.{Bool, true, false, _||_}
 use native.Mathlib.Omega.{arith}
 use native.Mathlib.Nat.{not-suc-le-zero}
@@ -10,16 +10,16 @@ use lib.Dec.{eqb}
 use borrow.Author.Tests.{eqb-true, eqb-false}
 use Rattle.ground.specs.Pick.{look}
 use Rattle.net.specs.File.{Bytes}
-use Rattle.pattern.specs.Pat.{Pat, Empty, Seq, Alt, Star, Plus, Opt}
-use Rattle.pattern.specs.Reader.{Res, ok, form, deep, Lvl, alts, seq, piece, atom, andThen, stops, repeating, altTail, seqTail, opt?, plus?, repeated, closed, grouped, atomOr, step, left, read}
+use Rattle.pattern.specs.Pat.{Pat, Star, Plus, Opt}
+use Rattle.pattern.specs.Reader.{Lvl, alts, seq, piece, atom, stops, repeating, altTail, seqTail, opt?, plus?, repeated, closed, grouped, atomOr, step, left, read}
 use Rattle.pattern.specs.Grammar as grammar
-use Rattle.pattern.specs.Grammar.{Spells, Open}
-use Rattle.pattern.proofs.Laws.{byte-in, byte-of, went, read-good, read-step}
-use Rattle.grammar.proofs.Common.{true-false, byte-at}
-use Rattle.grammar.proofs.Machine.{St, at, dead, on, run, run-append}
-use Rattle.grammar.proofs.Runs.{To, runs, repeat-to, Fit, fit-low, Low, low-then, Room}
-use Rattle.grammar.proofs.Parts.{Part, no-bytes, one-byte, join, byte-then, then-byte}
-use Rattle.grammar.proofs.Tracked.{Fail, Fails, Found, Dives, Track, track-then, shift, before, piece-ahead, bar-ahead, room-in, around}
+use Rattle.pattern.specs.Grammar.{Open}
+use Rattle.pattern.proofs.Laws.{true-false, byte-in, byte-of, went, read-good, read-step}
+use Rattle.grammar.proofs.Common.{byte-at}
+use Rattle.grammar.proofs.Machine.{at, on, run, run-append}
+use Rattle.grammar.proofs.Runs.{runs, repeat-to, fit-low, Low, low-then, Room}
+use Rattle.grammar.proofs.Parts.{no-bytes, join, byte-then, then-byte}
+use Rattle.grammar.proofs.Tracked.{Found, Track, track-then, shift, before, piece-ahead, bar-ahead, room-in, around}
 use Rattle.grammar.proofs.Atoms.{single-track}
 
 -- atoms and pieces are read where a sequence does not stop

@@ -1,23 +1,22 @@
 -- What a reading says of the text, by the grammar and the machine: the word that was read, where no pattern goes on, where a group is too deep. Assumes nothing.
 use Prim.Native.Nat.{ℕ, zero, suc, _+_, _-_, _≤_, _<_}
 use mathlib.Core.Path.{_≡_, refl, sym, ap, subst, _∙_}
-use mathlib.Core.List.{List, [], _∷_, _++_, append-assoc, append-nil}
+use mathlib.Core.List.{List, [], _∷_, _++_, append-assoc}
 use mathlib.Core.Bool.{Bool, true, false, _||_}
 use native.Mathlib.Omega.{arith}
 use lib.ListN.{length}
 use lib.Dec.{eqb}
 use Rattle.ground.specs.Pick.{look}
 use Rattle.pattern.specs.Pat.{Pat}
-use Rattle.pattern.specs.Sets.{Item, Step}
+use Rattle.pattern.specs.Sets.{Item}
 use Rattle.pattern.specs.Reader.{Res, ok, form, deep, Lvl, alts, seq, piece, atom, andThen, stops, repeating}
 use Rattle.pattern.specs.Grammar as grammar
 use Rattle.pattern.specs.Grammar.{Spells, Legal, Open}
-use Rattle.grammar.proofs.Common.{true-false}
 use Rattle.grammar.proofs.SetRun.{Going}
 use Rattle.grammar.proofs.SetHeard.{Sofar}
 use Rattle.grammar.proofs.Machine.{St, at, esc, mark, box, inset, dead, on, run, run-append}
-use Rattle.grammar.proofs.Runs.{To, runs, Fit, fit-low, Low, low-then, Room}
-use Rattle.grammar.proofs.Parts.{Part, no-bytes, one-byte, join, byte-then}
+use Rattle.grammar.proofs.Runs.{runs, Fit, Low, low-then, Room}
+use Rattle.grammar.proofs.Parts.{Part, join, byte-then}
 
 -- a state in which some pattern goes on, and one in which it may end
 abbrev pub Alive : St → Type 0
