@@ -2,6 +2,7 @@
 -- Assumes nothing.
 use Prim.Native.Nat.{ℕ, _≤_, _<_}
 use mathlib.Core.Path.{_≡_, refl, sym, ap, subst, _∙_}
+use mathlib.Core.Logic.{_↔_}
 use mathlib.Core.List.{List}
 use native.Mathlib.Omega.{arith}
 use native.Mathlib.Decide.{decLt, decLe}
@@ -16,7 +17,7 @@ use Rattle.pattern.specs.Grammar.{FormAt, DeepAt}
 use Rattle.pattern.specs.Maker as maker
 use Rattle.pattern.specs.Maker.{Given, refuse, written, file, judged}
 use Rattle.grammar.specs.Answer as answer
-use Rattle.grammar.specs.Answer.{Good, Answered}
+use Rattle.grammar.specs.Answer.{Legible, Fault, Answered}
 use Rattle.grammar.proofs.Place.{one-place, deep-before-form, form-place, close-place, whole-text, deep-place, deep-first, form-not-deep, close-not-deep, ok-not-deep}
 use Rattle.grammar.proofs.ReadSpells.{read-spells-16}
 
@@ -41,7 +42,7 @@ module _ (s out : List ℕ) where
 
   module _ (bs : Bytes s) where
     -- of a good text
-    good-read : (p : Pat) → Good s p → maker.maker s out ≡ maker.made p out
+    good-read : (p : Pat) → Legible s p → maker.maker s out ≡ maker.made p out
     good-read p g = maker-short (g .short) (ok (length s) p) (read-spells-16 s bs p .1 (g .spells, g .shallow)) ∙ pick-not-lt (length s) (length s) _ _ (omega arith)
 
     -- Whatever the grammar says is answered is what the maker answers.
@@ -76,7 +77,7 @@ module _ (s out : List ℕ) where
     answered-maker (answer.made {p = p} g h l) = sym (good-read p g ∙ made-whole p h l)
 
     -- Of every text one of the cases holds.
-    made-answered : (p : Pat) → Good s p → Answered s out (maker.maker s out)
+    made-answered : (p : Pat) → Legible s p → Answered s out (maker.maker s out)
     made-answered p g = go (decLe 64 (size p)) (decLt (length out) (length (file p)))
       where
         go : Dec (64 ≤ size p) → Dec (length out < length (file p)) → Answered s out (maker.maker s out)
@@ -111,6 +112,11 @@ module _ (s out : List ℕ) where
     pub answered-one : {g h : Given} → Answered s out g → Answered s out h → g ≡ h
     answered-one a b = answered-maker a ∙ sym (answered-maker b)
 
-    -- FORM is answered exactly at its place, where none is DEEP's; DEEP at the first of its places
-    pub leftmost : (k q : ℕ) → DeepAt s k → FormAt s q → k < q
-    leftmost k q z f = deep-before-form s bs k q z f
+    -- The maker's promise is the grammar's: an answer is the maker's exactly if document 01's checks give it.
+    pub maker-exactly : (g : Given) → (g ≡ maker.maker s out) ↔ Answered s out g
+    maker-exactly g = (λ e. subst (Answered s out) (sym e) maker-answered, answered-maker)
+
+    -- "the leftmost of PATTERN_FORM and PATTERN_DEEP" is answered
+    pub leftmost : {c q : ℕ} → length s ≤ 255 → Fault s c q → ((c′ q′ : ℕ) → Fault s c′ q′ → q ≤ q′) → maker.maker s out ≡ refuse c q out
+    leftmost h (answer.form-fault {q = q} f) first = sym (form-answered q h f (λ k z. let a = first PATTERN-DEEP k (answer.deep-fault z) in let b = deep-before-form s bs k q z f in absurd (omega arith)) (read s alts 0 0) refl)
+    leftmost h (answer.deep-fault {q = q} z) first = sym (deep-answered q h z (λ k y. first PATTERN-DEEP k (answer.deep-fault y)) (read s alts 0 0) refl)

@@ -57,6 +57,13 @@ open-run (suc n) w o k m b e =
     let r = open-run n (o .1) (o .3) (suc k) m false (omega arith) in
     (r .0, ap (run (at k b)) (o .4) ∙ run-append (at k b) (o .0) (40 ∷ o .1) ∙ ap (λ x. run x (40 ∷ o .1)) (z .gets) ∙ r .1)
 
+-- how many are open is one number
+pub open-one : (n m : ℕ) (w : List ℕ) → Open n w → Open m w → n ≡ m
+open-one n m w a b =
+    let x = open-run n w a 0 n false (omega arith) in
+    let y = open-run m w b 0 m false (omega arith) in
+    let e : at n (x .0) ≡ at m (y .0) = sym (x .1) ∙ y .1 in cc
+
 -- at DEEP's place the machine opens the 17th group
 pub deep-run : (s : List ℕ) (q : ℕ) → DeepAt s q → run start (take (q + 1) s) ≡ at 17 false
 deep-run s q h =

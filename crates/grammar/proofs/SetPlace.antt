@@ -1,9 +1,10 @@
 -- What `scan` finds is what the grammar spells, and its place of a fault is the grammar's. Assumes nothing.
-use Prim.Native.Nat.{ℕ, _+_}
-use mathlib.Core.Path.{_≡_, sym, ap, subst, _∙_}
+use Prim.Native.Nat.{ℕ, _+_, _≤_, _<_}
+use mathlib.Core.Path.{_≡_, refl, sym, ap, subst, _∙_}
 use mathlib.Core.List.{List, [], _∷_, _++_, append-assoc}
 use native.Mathlib.Omega.{arith}
-use lib.ListN.{length, length-append}
+use lib.ListN.{length, take, length-append}
+use lib.Seq.{take-append-seam, take-append-add}
 use Rattle.net.specs.File.{Bytes}
 use Rattle.pattern.specs.Sets.{Item, Step, fresh, shut, bad, setOn, listing, wrong, scan}
 use Rattle.pattern.specs.Grammar.{ItemsSpell}
@@ -94,3 +95,30 @@ module _ (w : List ℕ) (bs : Bytes w) (i q : ℕ) (h : Broken w i q) where
       let y : setRun fresh ((h .word ++ c ∷ []) ++ b .0) ≡ bad = setRun-append fresh (h .word ++ c ∷ []) (b .0) ∙ ap (λ s. setRun s (b .0)) (setRun-append fresh (h .word) (c ∷ []) ∙ g) ∙ run-bad (b .0) in
       let s : shut ≡ bad = sym x ∙ ap (setRun fresh) (sym (b .3)) ∙ y in
       let n : _≡_ {A = ℕ} 0 1 = cc in omega arith
+
+-- The place of a fault, n bytes on: some set begins with the bytes before it, and none with the byte at it.
+pub record SetFault (w : List ℕ) (n : ℕ) : Type 0 where
+  pub inside : n ≤ length w
+  pub before : SetBegins (take n w)
+  pub beyond : n < length w → SetBegins (take (n + 1) w) → ⊥
+
+pub set-place : (w : List ℕ) → Bytes w → (i q : ℕ) → scan w i fresh [] ≡ wrong q → (n : ℕ) × (q ≡ i + n) × SetFault w n
+set-place w bs i q e = (
+  length (h .word),
+  h .place,
+  record {
+    inside = let a = ap length (h .parts) in let b = length-append (h .word) (h .rest) in omega arith;
+    before = subst SetBegins (sym front) (set-before w bs i q h);
+    beyond = past (h .rest) refl;
+  },
+)
+  where
+    h : Broken w i q
+    h = scan-wrong w bs i q e
+
+    front : take (length (h .word)) w ≡ h .word
+    front = ap (take (length (h .word))) (h .parts) ∙ take-append-seam (h .word) (h .rest)
+
+    past : (r : List ℕ) → h .rest ≡ r → length (h .word) < length w → SetBegins (take (length (h .word) + 1) w) → ⊥
+    past [] g l b = let a = ap length (h .parts) in let n = length-append (h .word) (h .rest) in let m = ap length g in omega arith
+    past (c ∷ r) g l b = set-beyond w bs i q h c r g (subst SetBegins (ap (take (length (h .word) + 1)) (h .parts ∙ ap (λ l. h .word ++ l) g) ∙ take-append-add (h .word) (c ∷ r) 1) b)
