@@ -15,6 +15,17 @@ extern "C" {
         place: *mut usize,
         length: *mut usize,
     ) -> u8;
+    fn cv_build(
+        net: *const u8,
+        net_len: usize,
+        work: *mut u8,
+        work_len: usize,
+        out: *mut u8,
+        out_len: usize,
+        length: *mut usize,
+        situations: *mut usize,
+        registers: *mut usize,
+    ) -> u8;
     fn cv_load(table: *const u8, table_len: usize) -> u8;
     fn cv_run(
         table: *const u8,
@@ -123,4 +134,38 @@ pub fn pattern(text: &[u8], out_len: usize) -> Result<Made, String> {
         cv_pattern(text.as_ptr(), text.len(), room.as_mut_ptr(), room.len(), &mut place, &mut length)
     };
     Ok(Made { code, place, net: out.first(length)?.to_vec() })
+}
+
+/// What the builder answers.
+#[derive(Debug, PartialEq)]
+pub struct Built {
+    pub code: u8,
+    pub situations: usize,
+    pub registers: usize,
+    pub table: Vec<u8>,
+}
+
+/// A table built of an automaton file, with work memory and an output of those lengths.
+pub fn build(net: &[u8], work_len: usize, out_len: usize) -> Result<Built, String> {
+    let mut work = vec![FILL; work_len];
+    let mut out = Guarded::new(out_len);
+    let room = out.part();
+    let (mut length, mut situations, mut registers) = (usize::MAX, usize::MAX, usize::MAX);
+    let code = unsafe {
+        cv_build(
+            net.as_ptr(),
+            net.len(),
+            work.as_mut_ptr(),
+            work.len(),
+            room.as_mut_ptr(),
+            room.len(),
+            &mut length,
+            &mut situations,
+            &mut registers,
+        )
+    };
+    if work.iter().any(|b| *b != 0) {
+        return Err("! WORK NOT ZERO".to_string());
+    }
+    Ok(Built { code, situations, registers, table: out.first(length)?.to_vec() })
 }

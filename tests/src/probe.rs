@@ -26,7 +26,8 @@ fn told(line: &str) -> Told {
         ["run", table, line] => run(table, line),
         ["field", len, from, to] => field(len, from, to),
         ["pattern", text, len] => pattern(text, len),
-        ["build", _, _, _] | ["tagline", _] => Some(Ok(NOT_YET.to_string())),
+        ["build", net, work, out] => build(net, work, out),
+        ["tagline", _] => Some(Ok(NOT_YET.to_string())),
         _ => None,
     }
 }
@@ -58,4 +59,9 @@ fn run(table: &str, line: &str) -> Told {
 fn pattern(text: &str, len: &str) -> Told {
     let made = calls::pattern(&bytes(text)?, len.parse().ok()?);
     Some(made.map(|m| format!("{} {} {}", m.code, m.place, hex(&m.net))))
+}
+
+fn build(net: &str, work: &str, out: &str) -> Told {
+    let built = calls::build(&bytes(net)?, work.parse().ok()?, out.parse().ok()?);
+    Some(built.map(|b| format!("{} {} {} {}", b.code, hex(&b.table), b.situations, b.registers)))
 }

@@ -36,6 +36,7 @@ pub fn fault(case: &str) -> Option<String> {
         "L" => same(calls::load(&raw(w[1])), number(w[2])),
         "R" => run(&w),
         "P" => pattern(&w),
+        "B" => build(&w),
         _ => Err("no such kind".to_string()),
     };
     match told {
@@ -78,6 +79,15 @@ fn pattern(w: &[&str]) -> Fits {
     let m = calls::pattern(&raw(w[1]), number(w[2]))?;
     same((m.code, m.place, m.net.len()), (number(w[3]), number(w[4]), number(w[5])))?;
     if is(w[6], &m.net) { Ok(()) } else { Err(format!("another net: {}", hex(&m.net))) }
+}
+
+fn build(w: &[&str]) -> Fits {
+    let b = calls::build(&raw(w[1]), number(w[2]), number(w[3]))?;
+    same(
+        (b.code, b.table.len(), b.situations, b.registers),
+        (number(w[4]), number(w[5]), number(w[6]), number(w[7])),
+    )?;
+    if is(w[8], &b.table) { Ok(()) } else { Err(format!("another table: {}", hex(&b.table))) }
 }
 
 fn field(w: &[&str]) -> Fits {

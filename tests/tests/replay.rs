@@ -21,6 +21,11 @@ fn patterns() {
 }
 
 #[test]
+fn builds() {
+    replay("B");
+}
+
+#[test]
 fn loads() {
     replay("L");
 }

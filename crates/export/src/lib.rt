@@ -7,7 +7,8 @@ ghost use Rattle.net.specs.Count.{byteCount};
 ghost use Rattle.reading.specs.Reading.{cutBy};
 ghost use Rattle.card.specs.Judged.{Judged};
 ghost use Rattle.run.specs.Runs.{Runs};
-ghost use Rattle.export.specs.Results.{told, made};
+ghost use Rattle.export.specs.Results.{told, made, built};
+ghost use Rattle.build.specs.Build.{Builds};
 ghost use Rattle.pattern.specs.Maker.{given, maker};
 ghost use Rattle.export.specs.Copied.{Copies};
 
@@ -95,4 +96,23 @@ pub extern "C" fn cv_pattern(
     *place = m.place;
     *length = m.length;
     m.code
+}
+
+// A table built of an automaton file: the code, and beside it the table's bytes, its situations and its registers.
+#[no_mangle]
+pub extern "C" fn cv_build(
+    net: &[u8],
+    work: &mut [u8],
+    out: &mut [u8],
+    length: &mut usize,
+    situations: &mut usize,
+    registers: &mut usize,
+) -> u8
+    ensures { λ r. ⌜ Builds (now (net .entry)) (now (work .entry)) (now (out .entry)) (now (work .exit)) (now (out .exit)) (built r (now (length .exit)) (now (situations .exit)) (now (registers .exit))) ⌝ }
+{
+    let b = build::build(net, work, out);
+    *length = b.length;
+    *situations = b.situations;
+    *registers = b.registers;
+    b.code
 }
