@@ -81,8 +81,8 @@ pub fn set(s: &[u8], at: usize) -> Read
     requires { ⌜ at < length (now s) ⌝ }
     ensures { λ r. ⌜ r ≡ measured (setAt (now (s .entry)) at) ⌝ }
 {
-    match bracket(s, at, 0) {
-        Scanned::At { end, hit: _ } => Read::Ok {
+    match bracket(s, at) {
+        Scanned::At(end) => Read::Ok {
             end,
             sum: one(34, 0),
         },
