@@ -30,6 +30,7 @@ pub fn start_at(size: usize, n: usize, f: usize) -> usize
     if size == 0 { f } else { n }
 }
 
+// One record of each kind, from o on; the place after it is handed back.
 pub fn put_fork(out: &mut [u8], o: usize, a: usize, b: usize) -> usize
     requires { ⌜ (o + 3 ≤ length (now out)) × (a < 256) × (b < 256) ⌝ }
     ensures { λ r. ⌜ Wrote (now (out .entry)) (now (out .exit)) o r (rec-bytes (fork a b)) ⌝ }
@@ -154,6 +155,7 @@ pub fn emit_lone(s: &[u8], at: usize, out: &mut [u8], o: usize, n: usize, f: usi
     put_range(out, o, c, c, f)
 }
 
+// Alternatives: the first record has number n and stands at o, and f is what follows.
 pub fn emit_alternatives(
     s: &[u8],
     at: usize,
@@ -186,6 +188,7 @@ pub fn emit_alternatives(
     emit_alternatives(s, end + 1, depth, out, b, n + 1 + size, f)
 }
 
+// A sequence.
 pub fn emit_sequence(
     s: &[u8],
     at: usize,
@@ -216,6 +219,7 @@ pub fn emit_sequence(
     emit_sequence(s, end, depth, out, a, n + size, f)
 }
 
+// An atom, and the FORK that repeats it.
 pub fn emit_repeated(
     s: &[u8],
     at: usize,
@@ -252,6 +256,7 @@ pub fn emit_repeated(
     emit_atomic(s, at, depth, out, o, n, f)
 }
 
+// An atom.
 pub fn emit_atomic(
     s: &[u8],
     at: usize,
@@ -280,6 +285,7 @@ pub fn emit_atomic(
     emit_alternatives(s, at + 1, depth + 1, out, o, n, f)
 }
 
+// The HEAD.
 pub fn put_head(out: &mut [u8], tags: u8, count: usize)
     requires { ⌜ (4 ≤ length (now out)) × (count < 256) ⌝ }
     ensures { λ _. ⌜ Wrote (now (out .entry)) (now (out .exit)) 0 4 (headOf tags count) ⌝ }
@@ -290,6 +296,7 @@ pub fn put_head(out: &mut [u8], tags: u8, count: usize)
     out[3] = count as u8;
 }
 
+// The last record.
 pub fn put_end(out: &mut [u8], o: usize, answer: u8) -> usize
     requires { ⌜ o + 2 ≤ length (now out) ⌝ }
     ensures { λ r. ⌜ Wrote (now (out .entry)) (now (out .exit)) o r (rec-bytes (end answer)) ⌝ }

@@ -6,7 +6,7 @@ use Rattle.pattern.specs.Sets.{gained}
 use Rattle.pattern.specs.Standing.{stands}
 use Rattle.pattern.specs.declared.sets.Stand.the-variants.{Held, Dash, DashQuote, Name}
 use Rattle.pattern.specs.declared.sets.Gain.the-variants.{Nothing, Span}
-use Rattle.pattern.proofs.Common.{pick-yes, pick-no}
+use Rattle.ground.proofs.Picks.{picked, passed}
 use Rattle.pattern.proofs.SetSteps.{gets, from-below, gains-none}
 use borrow.Author.Needs.{needs}
 use Rattle.pattern.proofs.sets.item_at.Statement.{statement}
@@ -20,14 +20,14 @@ enum-known-st c = search needs
 
 returns : tie.Need-returns
 unfolding gained stands
-returns c = let a = c .before .before .before .before .before .before .args in let s = a .s .now in let i = a .i in let x = getD s i 0 in let v = c .before .before .st .given .0 .0 in gets s i (a .st) (Held v) Nothing x (c .before .before .st .given .1) (pick-yes _ _ _ (eq-eqb _ _ (c .if1 .taken)))
+returns c = let a = c .before .before .before .before .before .before .args in let s = a .s .now in let i = a .i in let x = getD s i 0 in let v = c .before .before .st .given .0 .0 in gets s i (a .st) (Held v) Nothing x (c .before .before .st .given .1) (picked _ _ (eq-eqb _ _ (c .if1 .taken)))
 
 enum-known-st-2 : tie.Need-enum-known-st-2
 enum-known-st-2 c = search needs
 
 returns-2 : tie.Need-returns-2
 unfolding gained stands
-returns-2 c = let a = c .before .before .before .before .before .before .args in let s = a .s .now in let i = a .i in let x = getD s i 0 in let v = c .before .before .st2 .given .0 .0 in gets s i (a .st) (Dash v) Nothing x (c .before .before .st2 .given .1) (pick-yes _ _ _ (eq-eqb _ _ (c .if2 .taken)))
+returns-2 c = let a = c .before .before .before .before .before .before .args in let s = a .s .now in let i = a .i in let x = getD s i 0 in let v = c .before .before .st2 .given .0 .0 in gets s i (a .st) (Dash v) Nothing x (c .before .before .st2 .given .1) (picked _ _ (eq-eqb _ _ (c .if2 .taken)))
 
 enum-known-st-3 : tie.Need-enum-known-st-3
 enum-known-st-3 c = search needs
@@ -40,11 +40,11 @@ class-at-requires c κs = (c .before .before .before .before .before .pre .0, fr
 
 returns-3 : tie.Need-returns-3
 unfolding gained stands
-returns-3 c = let a = c .before .before .before .before .before .before .args in let s = a .s .now in let i = a .i in let x = getD s i 0 in let v = c .before .before .st .given .0 .0 in gets s i (a .st) (Held v) (Span v v) x (c .before .before .st .given .1) (pick-no _ _ _ (ne-eqb _ _ (c .if1 .left)))
+returns-3 c = let a = c .before .before .before .before .before .before .args in let s = a .s .now in let i = a .i in let x = getD s i 0 in let v = c .before .before .st .given .0 .0 in gets s i (a .st) (Held v) (Span v v) x (c .before .before .st .given .1) (passed _ _ (ne-eqb _ _ (c .if1 .left)))
 
 returns-4 : tie.Need-returns-4
 unfolding gained stands
-returns-4 c = let a = c .before .before .before .before .before .before .args in let s = a .s .now in let i = a .i in let x = getD s i 0 in let v = c .before .before .st2 .given .0 .0 in gets s i (a .st) (Dash v) (Span v x) x (c .before .before .st2 .given .1) (pick-no _ _ _ (ne-eqb _ _ (c .if2 .left)))
+returns-4 c = let a = c .before .before .before .before .before .before .args in let s = a .s .now in let i = a .i in let x = getD s i 0 in let v = c .before .before .st2 .given .0 .0 in gets s i (a .st) (Dash v) (Span v x) x (c .before .before .st2 .given .1) (passed _ _ (ne-eqb _ _ (c .if2 .left)))
 
 returns-5 : tie.Need-returns-5
 unfolding gained stands
