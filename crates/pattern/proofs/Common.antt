@@ -1,16 +1,12 @@
 -- Laws of tests and lists that any crate may use. Assumes nothing.
 use Prim.Native.Nat.{ℕ, zero, suc, _+_, _-_, _≤_, _<_}
-use mathlib.Core.Path.{_≡_, refl, sym, ap, subst, _∙_}
+use mathlib.Core.Path.{_≡_, refl, sym, ap, _∙_}
 use mathlib.Core.Bool.{Bool, true, false, _||_, _&&_}
 use mathlib.Core.List.{List, [], _∷_, _++_}
 use native.Mathlib.Omega.{arith}
 use native.Mathlib.Nat.{sub-self}
 use lib.ListN.{length, getD, take, drop, length-drop}
 use lib.Seq.{take-suc, getD-drop}
-use lib.Dec.{T}
-
-pub true-false : _≡_ {A = Bool} true false → ⊥
-true-false z = subst T z tt
 
 -- a chain of tests, one after the other
 pub past : {a b x : Bool} → a ≡ false → x ≡ b → x ≡ a || b

@@ -58,10 +58,6 @@ byte-in s i n h t = in-text s i (λ e. go (sym (eqb-true (look s i) n t) ∙ e))
 pub true-false : _≡_ {A = Bool} true false → ⊥
 true-false z = subst T z tt
 
-pub either-left : (a b : Bool) → a || b ≡ false → a ≡ false
-either-left true b e = e
-either-left false b e = refl
-
 -- a test that 256 passes fails only within the text
 pub false-in : (s : List ℕ) (i : ℕ) (f : ℕ → Bool) → f 256 ≡ true → f (look s i) ≡ false → i < length s
 false-in s i f y n = test-in s i f y n
@@ -249,10 +245,6 @@ unfolding read readIn
 read-step s l d i h =
     step-same s (left s l i) (readIn (left s l i) s) (read s) (readIn-good (left s l i) s)
     (λ l′ d′ i′ h′ v. readIn-same (left s l i) (suc (left s l′ i′)) s l′ d′ i′ h′ v (omega arith)) l d i h (omega arith)
-
--- a chain of tests, one after the other
-pub past : {a b x : Bool} → a ≡ false → x ≡ b → x ≡ _||_ a b
-past {a} {b} {x} e h = h ∙ sym (ap (λ t. _||_ t b) e)
 
 -- The cases of an atom that is no group.
 module _ (s : List ℕ) (i : ℕ) where
