@@ -1,26 +1,12 @@
 -- Laws of tests and lists that any crate may use. Assumes nothing.
 use Prim.Native.Nat.{ℕ, zero, suc, _+_, _-_, _≤_, _<_}
-use mathlib.Core.Path.{_≡_, refl, sym, ap, subst, _∙_}
+use mathlib.Core.Path.{_≡_, refl, sym, ap, _∙_}
 use mathlib.Core.Bool.{Bool, true, false, _||_, _&&_}
 use mathlib.Core.List.{List, [], _∷_, _++_}
 use native.Mathlib.Omega.{arith}
 use native.Mathlib.Nat.{sub-self}
 use lib.ListN.{length, getD, take, drop, length-drop}
 use lib.Seq.{take-suc, getD-drop}
-use lib.Dec.{T}
-use Rattle.ground.specs.Pick.{pick}
-
-pub true-false : _≡_ {A = Bool} true false → ⊥
-true-false z = subst T z tt
-
--- the two ways of a choice
-pub pick-yes : {A : Type 0} (t : Bool) (a b : A) → t ≡ true → pick t a b ≡ a
-unfolding pick
-pick-yes t a b e = ap (λ t. pick t a b) e
-
-pub pick-no : {A : Type 0} (t : Bool) (a b : A) → t ≡ false → pick t a b ≡ b
-unfolding pick
-pick-no t a b e = ap (λ t. pick t a b) e
 
 -- a chain of tests, one after the other
 pub past : {a b x : Bool} → a ≡ false → x ≡ b → x ≡ a || b

@@ -9,7 +9,9 @@ use Rattle.pattern.specs.Pat.{Pat, automaton}
 use Rattle.pattern.specs.Pat.Pat.{Empty, Byte, Any, Set, Tag, Seq, Alt, Star, Plus, Opt}
 use Rattle.pattern.specs.Sets.{span, class, fresh, listing, allows, octet, octets, maskOf, setOn, gained, scan}
 use Rattle.pattern.specs.Reader.{Res, ok, form, deep, alts, single, setAt, readIn, read}
-use Rattle.net.specs.Rec.{range, mask, fork, tag, end}
+use Rattle.net.specs.Rec.{range, fork, tag, end}
+use Rattle.answers.specs.Answers.{OK, PATTERN-LONG, PATTERN-DEEP, PATTERN-BIG, OUT-SMALL}
+use Rattle.pattern.specs.Maker.{file, maker}
 
 -- what each text is read as
 abbrev each : List (List ℕ) → List Res
@@ -71,3 +73,14 @@ faults = refl
 depths : each (replicate 17 40 ∷ (replicate 16 40 ++ 42 ∷ []) ∷ []) ≡ deep 16 ∷ form 16 ∷ []
 unfolding read readIn single
 depths = refl
+
+-- "63 times `a` makes 64 records, 64 times PATTERN_BIG", in no room at all; 17 open groups; 256 bytes
+answers : (maker (replicate 63 97) [] .answer .code ≡ OUT-SMALL) × (maker (replicate 64 97) [] .answer .code ≡ PATTERN-BIG) × (maker (replicate 17 40) [] .answer .code ≡ PATTERN-DEEP) × (maker (replicate 256 97) [] .answer .code ≡ PATTERN-LONG)
+unfolding maker file read readIn single pick
+answers = (refl, refl, refl, refl)
+
+-- `a*@0b*` as a file
+filed : file (Seq (Star (Byte 97)) (Seq (Tag 0) (Seq (Star (Byte 98)) Empty)))
+    ≡ 16 ∷ 1 ∷ 1 ∷ 6 ∷ 19 ∷ 1 ∷ 2 ∷ 17 ∷ 97 ∷ 97 ∷ 0 ∷ 20 ∷ 0 ∷ 3 ∷ 19 ∷ 4 ∷ 5 ∷ 17 ∷ 98 ∷ 98 ∷ 3 ∷ 21 ∷ 0 ∷ []
+unfolding file
+filed = refl

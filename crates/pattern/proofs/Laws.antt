@@ -11,23 +11,19 @@ use lib.ListN.{length, getD, drop, length-drop, List·getD-eq-default}
 use lib.Dec.{T, eqb, leb}
 use borrow.Author.Tests.{eqb-true, eqb-false, eq-eqb, ne-eqb, leb-true, leb-false, le-leb, lt-leb}
 use Rattle.ground.specs.Pick.{pick, look}
+use Rattle.ground.proofs.Picks.{same-inside, in-list, test-in}
 use Rattle.pattern.specs.Pat.{Pat, size}
 use Rattle.pattern.specs.Pat.Pat.{Empty, Byte, Any, Set, Tag, Seq, Alt, Star, Plus, Opt}
 use Rattle.pattern.specs.Sets.{Item, Step, fresh, ready, held, quote, dash, dash-quote, name, shut, bad, setOn, gained, Scanned, listing, wrong, onward, scan, allows, maskOf}
 use Rattle.pattern.specs.Reader.{Res, ok, form, deep, Lvl, alts, seq, piece, atom, andThen, stops, repeating, barred, onByte, setRead, setFrom, setAt, onSet, onDot, tagged, isTag, onMark, escaped, onEsc, single, altTail, seqTail, opt?, plus?, repeated, closed, grouped, atomOr, step, readIn, rank, left, read}
 
+-- the byte at a place, whatever stands for the end
 pub same-default : (s : List ℕ) (a b i : ℕ) → i < length s → getD s i a ≡ getD s i b
-same-default [] a b i h = absurd (not-suc-le-zero h)
-same-default (x ∷ s) a b zero h = refl
-same-default (x ∷ s) a b (suc i) h = same-default s a b i (le-of-suc-le-suc h)
+same-default s a b i h = same-inside s i a b h
 
 -- a byte stands within the text
 pub in-text : (s : List ℕ) (i : ℕ) → (look s i ≡ 256 → ⊥) → i < length s
-in-text s i h = go (decLt i (length s))
-  where
-    go : Dec (i < length s) → i < length s
-    go (yes l) = l
-    go (no n) = absurd (h (List·getD-eq-default s 256 (omega arith)))
+in-text s i h = in-list s i h
 
 -- What a reading at i gives: it goes on, stays in the text, and has a record for each byte at most.
 abbrev pub adv : Lvl → ℕ
@@ -62,13 +58,9 @@ byte-in s i n h t = in-text s i (λ e. go (sym (eqb-true (look s i) n t) ∙ e))
 pub true-false : _≡_ {A = Bool} true false → ⊥
 true-false z = subst T z tt
 
-pub either-left : (a b : Bool) → a || b ≡ false → a ≡ false
-either-left true b e = e
-either-left false b e = refl
-
 -- a test that 256 passes fails only within the text
 pub false-in : (s : List ℕ) (i : ℕ) (f : ℕ → Bool) → f 256 ≡ true → f (look s i) ≡ false → i < length s
-false-in s i f y n = in-text s i (λ e. true-false (sym y ∙ ap f (sym e) ∙ n))
+false-in s i f y n = test-in s i f y n
 
 byte-good : (s : List ℕ) (i : ℕ) (b : Bool) → barred (look s i) ≡ b → i ≤ length s → Good s atom i (onByte b i (look s i))
 byte-good s i true e h = (omega arith, h)
@@ -253,10 +245,6 @@ unfolding read readIn
 read-step s l d i h =
     step-same s (left s l i) (readIn (left s l i) s) (read s) (readIn-good (left s l i) s)
     (λ l′ d′ i′ h′ v. readIn-same (left s l i) (suc (left s l′ i′)) s l′ d′ i′ h′ v (omega arith)) l d i h (omega arith)
-
--- a chain of tests, one after the other
-pub past : {a b x : Bool} → a ≡ false → x ≡ b → x ≡ _||_ a b
-past {a} {b} {x} e h = h ∙ sym (ap (λ t. _||_ t b) e)
 
 -- The cases of an atom that is no group.
 module _ (s : List ℕ) (i : ℕ) where

@@ -11,4 +11,5 @@ pub mod EmitSteps
 pub mod EmitSets
 pub mod Top
 pub mod Legal
+pub mod Kept
 pub mod Examples

@@ -13,7 +13,6 @@ use Rattle.pattern.specs.Pat.{Pat, size}
 use Rattle.pattern.specs.Pat.Pat.{Empty, Byte, Any, Set, Tag, Seq, Alt, Star, Plus, Opt}
 use Rattle.pattern.specs.Sets.{Scanned, listing, wrong, scan, fresh, allows, octet, octets, maskOf}
 use Rattle.pattern.specs.Reader.{Res, ok, form, deep, Lvl, alts, seq, piece, atom, andThen, stops, repeating, barred, onByte, setRead, setFrom, setAt, onSet, onDot, tagged, isTag, onMark, escaped, onEsc, single, altTail, seqTail, opt?, plus?, repeated, closed, grouped, atomOr, step, readIn, left, read}
-use Rattle.pattern.proofs.Common.{true-false}
 use Rattle.pattern.proofs.Masks.{octet-byte, octets-long}
 use Rattle.pattern.proofs.Laws.{same-default, in-text, false-in}
 

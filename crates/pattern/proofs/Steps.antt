@@ -15,7 +15,7 @@ use Rattle.pattern.specs.Pat.{Pat, size}
 use Rattle.pattern.specs.Pat.Pat.{Empty, Byte, Any, Set, Tag, Seq, Alt, Star, Plus, Opt}
 use Rattle.pattern.specs.Sets as sets
 use Rattle.pattern.specs.Reader.{Res, ok, form, deep, Lvl, alts, seq, piece, atom, andThen, stops, repeating, single, setRead, setFrom, setAt, altTail, seqTail, opt?, plus?, repeated, closed, grouped, atomOr, step, left, read}
-use Rattle.pattern.specs.Standing.{allowed, boxed, boxedFrom}
+use Rattle.pattern.specs.Standing.{seen, boxed, boxedFrom}
 use Rattle.pattern.specs.Measured.{measured, sumOf, seqSum, altSum, repSum, width, tags}
 use Rattle.pattern.specs.declared.sets.Scanned.the-variants.{At, Wrong}
 use Rattle.pattern.specs.declared.reading.Sum.{Sum}
@@ -169,42 +169,38 @@ module _ (s : List ℕ) (d i : ℕ) (h : i ≤ length s) where
         atom-done x = let v = inv (read s alts (d + 1) (i + 1)) q in told _ _ m (v .pat) (atom-closed s d i h e (v .pat) o f (v .is) ∙ ap (λ b. closed b e (v .pat)) (eq-eqb _ _ x)) (v .summed)
 
 -- a set is one record of 34 bytes, whatever it allows
-module _ (b : ℕ) where
-  read-at : (caret : Bool) (z : sets.Scanned) (e : ℕ) (hit : Bool) (m : Sum) → At e hit ≡ allowed caret b z → m ≡ sumOf (Set []) → Ok e m ≡ measured (setRead caret z)
-  unfolding allowed measured
-  read-at caret (sets.listing e′ xs) e hit m h g = ap (Ok e) g ∙ ap (λ n. Ok n (sumOf (Set []))) (ends h)
-    where
-      ends : {x y : Bool} → At e x ≡ At e′ y → e ≡ e′
-      ends z = cc
-  read-at caret (sets.wrong q) e hit m h g = absurd (differ h)
-    where
-      differ : At e hit ≡ Wrong q → ⊥
-      differ y = let k : _≡_ {A = ℕ} 0 1 = cc in omega arith
+read-at : (caret : Bool) (z : sets.Scanned) (e : ℕ) (m : Sum) → At e ≡ seen z → m ≡ sumOf (Set []) → Ok e m ≡ measured (setRead caret z)
+unfolding seen measured
+read-at caret (sets.listing e′ xs) e m h g = ap (Ok e) g ∙ ap (λ n. Ok n (sumOf (Set []))) (ends h)
+  where
+    ends : At e ≡ At e′ → e ≡ e′
+    ends z = cc
+read-at caret (sets.wrong q) e m h g = absurd (differ h)
+  where
+    differ : At e ≡ Wrong q → ⊥
+    differ y = let k : _≡_ {A = ℕ} 0 1 = cc in omega arith
 
-  read-wrong : (caret : Bool) (z : sets.Scanned) (q : ℕ) → Wrong q ≡ allowed caret b z → Form q ≡ measured (setRead caret z)
-  unfolding allowed measured
-  read-wrong caret (sets.listing e xs) q h = absurd (differ h)
-    where
-      differ : {x : Bool} → Wrong q ≡ At e x → ⊥
-      differ y = let k : _≡_ {A = ℕ} 0 1 = cc in omega arith
-  read-wrong caret (sets.wrong q′) q h = ap Form (same h)
-    where
-      same : Wrong q ≡ Wrong q′ → q ≡ q′
-      same y = cc
+read-wrong : (caret : Bool) (z : sets.Scanned) (q : ℕ) → Wrong q ≡ seen z → Form q ≡ measured (setRead caret z)
+unfolding seen measured
+read-wrong caret (sets.listing e xs) q h = absurd (differ h)
+  where
+    differ : Wrong q ≡ At e → ⊥
+    differ y = let k : _≡_ {A = ℕ} 0 1 = cc in omega arith
+read-wrong caret (sets.wrong q′) q h = ap Form (same h)
+  where
+    same : Wrong q ≡ Wrong q′ → q ≡ q′
+    same y = cc
 
-  module _ (s : List ℕ) (i : ℕ) where
-    from-at : (t : Bool) (e : ℕ) (hit : Bool) (m : Sum) → At e hit ≡ boxedFrom t s i b → m ≡ sumOf (Set []) → Ok e m ≡ measured (setFrom t s i)
-    from-at true e hit m h g = read-at true (sets.scan (drop (i + 2) s) (i + 2) sets.fresh []) e hit m h g
-    from-at false e hit m h g = read-at false (sets.scan (drop (i + 1) s) (i + 1) sets.fresh []) e hit m h g
+from-box : (s : List ℕ) (i : ℕ) (t : Bool) → setFrom t s i ≡ setRead t (boxedFrom t s i)
+from-box s i true = refl
+from-box s i false = refl
 
-    from-wrong : (t : Bool) (q : ℕ) → Wrong q ≡ boxedFrom t s i b → Form q ≡ measured (setFrom t s i)
-    from-wrong true q h = read-wrong true (sets.scan (drop (i + 2) s) (i + 2) sets.fresh []) q h
-    from-wrong false q h = read-wrong false (sets.scan (drop (i + 1) s) (i + 1) sets.fresh []) q h
+pub set-boxed : (s : List ℕ) (i : ℕ) → setAt s i ≡ setRead (eqb (look s (i + 1)) 94) (boxed s i)
+unfolding boxed setAt
+set-boxed s i = from-box s i (eqb (look s (i + 1)) 94)
 
-    pub set-read : (e : ℕ) (hit : Bool) (m : Sum) → At e hit ≡ boxed s i b → m ≡ sumOf (Set []) → Ok e m ≡ measured (setAt s i)
-    unfolding boxed setAt
-    set-read e hit m h g = from-at (eqb (look s (i + 1)) 94) e hit m h g
+pub set-read : (s : List ℕ) (i e : ℕ) (m : Sum) → At e ≡ seen (boxed s i) → m ≡ sumOf (Set []) → Ok e m ≡ measured (setAt s i)
+set-read s i e m h g = read-at (eqb (look s (i + 1)) 94) (boxed s i) e m h g ∙ sym (ap measured (set-boxed s i))
 
-    pub set-wrong : (q : ℕ) → Wrong q ≡ boxed s i b → Form q ≡ measured (setAt s i)
-    unfolding boxed setAt
-    set-wrong q h = from-wrong (eqb (look s (i + 1)) 94) q h
+pub set-wrong : (s : List ℕ) (i q : ℕ) → Wrong q ≡ seen (boxed s i) → Form q ≡ measured (setAt s i)
+set-wrong s i q h = read-wrong (eqb (look s (i + 1)) 94) (boxed s i) q h ∙ sym (ap measured (set-boxed s i))

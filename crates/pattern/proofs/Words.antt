@@ -13,13 +13,13 @@ use borrow.Author.Tests.{eq-eqb, ne-eqb, leb-true}
 use types.Run.{OneOf, miss}
 use denote.Enum.Declared.{tagOf}
 use Rattle.ground.specs.Pick.{pick}
+use Rattle.ground.proofs.Picks.{picked, passed}
 use Rattle.ground.proofs.Tested.{below, tested-below}
 use Rattle.pattern.specs.Sets.{Named, names, wordOf, against, orElse, seek, whole, begun, none}
 use Rattle.pattern.specs.Standing.{word, told}
 use Rattle.pattern.specs.declared.sets.Word.{Word}
 use Rattle.pattern.specs.declared.sets.Word.the-variants.{Whole, Begun, Nothing}
 use Rattle.pattern.proofs.sets.Word.{the-type}
-use Rattle.pattern.proofs.Common.{pick-yes, pick-no}
 
 -- the table of the words: nine bytes each
 unfoldable pub letters : ℕ → ℕ
@@ -59,10 +59,10 @@ module _ (w v : List ℕ) (k t : ℕ) where
     here = ap (λ x. against x (drop t v) k) (drop-cons w t 0 h) ∙ ap (λ x. against (getD w t 0 ∷ drop (suc t) w) x k) (drop-cons v t 0 l)
 
     pub against-differs : (getD w t 0 ≡ getD v t 0 → ⊥) → against (drop t w) (drop t v) k ≡ none
-    against-differs n = here ∙ pick-no (eqb (getD w t 0) (getD v t 0)) (against (drop (suc t) w) (drop (suc t) v) k) none (ne-eqb _ _ n)
+    against-differs n = here ∙ passed (against (drop (suc t) w) (drop (suc t) v) k) none (ne-eqb _ _ n)
 
     pub against-same : getD w t 0 ≡ getD v t 0 → against (drop t w) (drop t v) k ≡ against (drop (t + 1) w) (drop (t + 1) v) k
-    against-same e = here ∙ pick-yes (eqb (getD w t 0) (getD v t 0)) (against (drop (suc t) w) (drop (suc t) v) k) none (eq-eqb _ _ e) ∙ ap (λ j. against (drop j w) (drop j v) k) (sym (add-one t))
+    against-same e = here ∙ picked (against (drop (suc t) w) (drop (suc t) v) k) none (eq-eqb _ _ e) ∙ ap (λ j. against (drop j w) (drop j v) k) (sym (add-one t))
 
   pub against-whole : length w ≤ t → length v ≤ t → against (drop t w) (drop t v) k ≡ whole k
   against-whole h l = ap (λ x. against x (drop t v) k) (drop-of-length-le w h) ∙ ap (λ x. against [] x k) (drop-of-length-le v l)

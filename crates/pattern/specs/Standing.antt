@@ -1,17 +1,21 @@
 -- What the functions that read a set answer, in terms of the set's steps. Assumes nothing: these are definitions.
-use Prim.Native.Nat.{ℕ, _+_, _-_, _≤_}
+use Prim.Native.Nat.{ℕ, _+_, _-_, _≤_, _<_}
 use mathlib.Core.Path.{_≡_}
 use mathlib.Core.Bool.{Bool, true, false}
 use mathlib.Core.List.{List, [], _∷_}
-use lib.ListN.{getD, take, drop}
+use lib.ListN.{length, getD, take, drop}
 use lib.Dec.{eqb}
+use Rattle.ground.specs.Bits.{flag}
 use Rattle.ground.specs.Pick.{look}
 use Rattle.pattern.specs.Sets as sets
-use Rattle.pattern.specs.Sets.{Item, Step, Named, names, wordOf, setOn, allows, listed}
+use Rattle.pattern.specs.Sets.{Item, Step, Named, names, wordOf, listed}
 use Rattle.pattern.specs.declared.sets.Stand.{Stand}
 use Rattle.pattern.specs.declared.sets.Stand.the-variants.{Fresh, Ready, Held, Quote, Dash, DashQuote, Name, Shut, Bad}
 use Rattle.pattern.specs.declared.sets.Word as declared-word
 use Rattle.pattern.specs.declared.sets.Word.the-variants.{Whole, Begun, Nothing}
+use Rattle.pattern.specs.declared.sets.Gain.{Gain}
+use Rattle.pattern.specs.declared.sets.Gain.the-variants as gain
+use Rattle.pattern.specs.declared.sets.Gain.the-variants.{Span, Class}
 use Rattle.pattern.specs.declared.sets.Scanned as declared-scanned
 use Rattle.pattern.specs.declared.sets.Scanned.the-variants.{At, Wrong}
 
@@ -53,20 +57,36 @@ pub record Stepped (s : List ℕ) (i : ℕ) (x : Step) (r : Stand) : Type 0 wher
   pub is : stands s (i + 1) r ≡ x
   pub sound : Sound (i + 1) r
 
--- whether byte b is among the items
-unfoldable pub seen : ℕ → sets.Scanned → declared-scanned.Scanned
-seen b (sets.listing e xs) = At e (listed b xs)
-seen b (sets.wrong q) = Wrong q
+-- the items of an answer, one at most
+abbrev pub itemsOf : Gain → List Item
+itemsOf gain.Nothing = []
+itemsOf (Span c d) = sets.span c d ∷ []
+itemsOf (Class k) = sets.class k ∷ []
 
--- whether byte b is allowed by the set
-unfoldable pub allowed : Bool → ℕ → sets.Scanned → declared-scanned.Scanned
-allowed caret b (sets.listing e xs) = At e (allows caret xs b)
-allowed caret b (sets.wrong q) = Wrong q
+-- a mark that is set, or stays
+abbrev pub raised : Bool → ℕ → ℕ
+raised true old = 1
+raised false old = old
+
+-- a mark for each of the 256 bytes that the items list
+pub record Marks (m : List ℕ) (xs : List Item) : Type 0 where
+  pub long : length m ≡ 256
+  pub right : (b : ℕ) → b < 256 → getD m b 0 ≡ flag (listed b xs)
+
+-- the same of the items of a set that was read
+unfoldable pub Listed : List ℕ → sets.Scanned → Type 0
+Listed m (sets.listing e xs) = Marks m xs
+Listed m (sets.wrong q) = Unit {0}
+
+-- where the reading ended
+unfoldable pub seen : sets.Scanned → declared-scanned.Scanned
+seen (sets.listing e xs) = At e
+seen (sets.wrong q) = Wrong q
 
 -- the set whose `[` stands at i
-abbrev pub boxedFrom : Bool → List ℕ → ℕ → ℕ → declared-scanned.Scanned
-boxedFrom true s i b = allowed true b (sets.scan (drop (i + 2) s) (i + 2) sets.fresh [])
-boxedFrom false s i b = allowed false b (sets.scan (drop (i + 1) s) (i + 1) sets.fresh [])
+abbrev pub boxedFrom : Bool → List ℕ → ℕ → sets.Scanned
+boxedFrom true s i = sets.scan (drop (i + 2) s) (i + 2) sets.fresh []
+boxedFrom false s i = sets.scan (drop (i + 1) s) (i + 1) sets.fresh []
 
-unfoldable pub boxed : List ℕ → ℕ → ℕ → declared-scanned.Scanned
-boxed s i b = boxedFrom (eqb (look s (i + 1)) 94) s i b
+unfoldable pub boxed : List ℕ → ℕ → sets.Scanned
+boxed s i = boxedFrom (eqb (look s (i + 1)) 94) s i

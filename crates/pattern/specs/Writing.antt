@@ -1,15 +1,14 @@
 -- What the writing functions leave. Assumes nothing: these are definitions.
 use Prim.Native.Nat.{ℕ, _+_, _≤_, _<_}
-use mathlib.Core.Bool.{Bool, false}
+use mathlib.Core.Bool.{Bool}
 use mathlib.Core.List.{List, [], _∷_, _++_}
-use lib.ListN.{length}
+use lib.ListN.{length, getD}
+use lib.Dec.{eqb}
 use Rattle.ground.specs.Lists.{each}
 use Rattle.net.specs.Rec.{Rec, end}
 use Rattle.net.specs.File.{rec-bytes}
 use Rattle.pattern.specs.Pat.{compile, size}
-use Rattle.pattern.specs.Standing.{boxed}
-use Rattle.pattern.specs.declared.sets.Scanned.{Scanned}
-use Rattle.pattern.specs.declared.sets.Scanned.the-variants.{At, Wrong}
+use Rattle.pattern.specs.Sets.{flipped}
 use Rattle.pattern.specs.Reader.{Res, ok, form, deep}
 
 unfoldable pub bytes : List Rec → List ℕ
@@ -26,13 +25,9 @@ sized (ok e p) = size p
 sized (form q) = 0
 sized (deep q) = 0
 
--- whether the set whose `[` stands at i allows byte b; no byte where it is no set
-abbrev pub hitOf : Scanned → Bool
-hitOf (At e hit) = hit
-hitOf (Wrong q) = false
-
-unfoldable pub allowedAt : List ℕ → ℕ → ℕ → Bool
-allowedAt s i b = hitOf (boxed s i b)
+-- what a set with these marks allows
+abbrev pub shown : Bool → List ℕ → ℕ → Bool
+shown caret m b = flipped caret (eqb (getD m b 0) 1)
 
 -- the HEAD of an automaton file
 abbrev pub headOf : ℕ → ℕ → List ℕ

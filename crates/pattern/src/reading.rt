@@ -37,12 +37,14 @@ pub fn one(width: usize, tags: u8) -> Sum
     }
 }
 
+// The larger of two.
 pub fn larger(a: u8, b: u8) -> u8
     ensures { λ r. ⌜ r ≡ max a b ⌝ }
 {
     if a < b { b } else { a }
 }
 
+// The measures of a sequence.
 pub fn seq_sum(a: Sum, b: Sum) -> Sum
     requires { ⌜ (a .size + b .size < 65536) × (a .width + b .width < 65536) ⌝ }
     ensures { λ r. ⌜ r ≡ seqSum a b ⌝ }
@@ -54,6 +56,7 @@ pub fn seq_sum(a: Sum, b: Sum) -> Sum
     }
 }
 
+// The measures of two alternatives and their FORK.
 pub fn alt_sum(a: Sum, b: Sum) -> Sum
     requires { ⌜ (a .size + b .size < 65536) × (a .width + b .width < 65536) ⌝ }
     ensures { λ r. ⌜ r ≡ altSum a b ⌝ }
@@ -65,6 +68,7 @@ pub fn alt_sum(a: Sum, b: Sum) -> Sum
     }
 }
 
+// The measures of a repeated atom and its FORK.
 pub fn rep_sum(a: Sum) -> Sum
     requires { ⌜ (a .size < 65536) × (a .width < 65536) ⌝ }
     ensures { λ r. ⌜ r ≡ repSum a ⌝ }
@@ -81,8 +85,8 @@ pub fn set(s: &[u8], at: usize) -> Read
     requires { ⌜ at < length (now s) ⌝ }
     ensures { λ r. ⌜ r ≡ measured (setAt (now (s .entry)) at) ⌝ }
 {
-    match bracket(s, at, 0) {
-        Scanned::At { end, hit: _ } => Read::Ok {
+    match bracket(s, at) {
+        Scanned::At(end) => Read::Ok {
             end,
             sum: one(34, 0),
         },
@@ -135,6 +139,7 @@ pub fn lone(s: &[u8], at: usize) -> Read
     }
 }
 
+// Alternatives from that place on, with that many groups open.
 pub fn alternatives(s: &[u8], at: usize, depth: usize) -> Read
     requires { ⌜ (at ≤ length (now s)) × (depth ≤ 16) × (length (now s) ≤ 255) ⌝ }
     ensures { λ r. ⌜ r ≡ measured (read (now (s .entry)) alts depth at) ⌝ }
@@ -160,6 +165,7 @@ pub fn alternatives(s: &[u8], at: usize, depth: usize) -> Read
     }
 }
 
+// A sequence.
 pub fn sequence(s: &[u8], at: usize, depth: usize) -> Read
     requires { ⌜ (at ≤ length (now s)) × (depth ≤ 16) × (length (now s) ≤ 255) ⌝ }
     ensures { λ r. ⌜ r ≡ measured (read (now (s .entry)) seq depth at) ⌝ }
@@ -193,6 +199,7 @@ pub fn sequence(s: &[u8], at: usize, depth: usize) -> Read
     }
 }
 
+// An atom, and perhaps one of `* + ?`.
 pub fn repeated(s: &[u8], at: usize, depth: usize) -> Read
     requires { ⌜ (at ≤ length (now s)) × (depth ≤ 16) × (length (now s) ≤ 255) ⌝ }
     ensures { λ r. ⌜ r ≡ measured (read (now (s .entry)) piece depth at) ⌝ }
@@ -211,6 +218,7 @@ pub fn repeated(s: &[u8], at: usize, depth: usize) -> Read
     one
 }
 
+// An atom: a group, or one that is none.
 pub fn atomic(s: &[u8], at: usize, depth: usize) -> Read
     requires { ⌜ (at ≤ length (now s)) × (depth ≤ 16) × (length (now s) ≤ 255) ⌝ }
     ensures { λ r. ⌜ r ≡ measured (read (now (s .entry)) atom depth at) ⌝ }

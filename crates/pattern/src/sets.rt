@@ -1,13 +1,12 @@
 // Bracket sets, read byte by byte.
 ghost use mathlib.Core.Path.{_≡_};
-ghost use mathlib.Core.Bool.{_||_};
-ghost use mathlib.Core.List.{List};
+ghost use mathlib.Core.List.{List, [], _++_};
 ghost use Prim.Native.Nat.{ℕ, _≤_, _<_, _+_};
 ghost use lib.ListN.{getD, length, drop};
 ghost use Rattle.pattern.specs.Sets.{Item, against, seek, names, listed, lists, span, gained, item, ends, upto, setOn, after-name, class-of};
 ghost use Rattle.pattern.specs.Sets as steps;
 ghost use Rattle.pattern.specs.Tests.{among};
-ghost use Rattle.pattern.specs.Standing.{word, told, stands, Sound, Stepped, seen, boxed};
+ghost use Rattle.pattern.specs.Standing.{word, told, stands, Sound, Stepped, itemsOf, raised, Marks, Listed, seen, boxed};
 
 // Where the text of a set stands, after its `[` or `[^`.
 pub enum Stand {
@@ -30,10 +29,17 @@ pub enum Word {
     Nothing,
 }
 
-// What reading a set finds: the place after it and whether it has a byte, or the place of the fault.
+// What reading a set finds: the place after it, or the place of the fault.
 pub enum Scanned {
-    At { end: usize, hit: bool },
+    At(usize),
     Wrong(usize),
+}
+
+// The item that a byte completes: none, the bytes from one to another, or those of a class.
+pub enum Gain {
+    Nothing,
+    Span(u8, u8),
+    Class(u8),
 }
 
 const WORDS: [u8; 108] =
@@ -211,85 +217,134 @@ pub fn between(a: u8, d: u8, b: u8) -> bool
     false
 }
 
-// Whether the name that began at from ends at i, of a class that has b.
-pub fn class_has(s: &[u8], from: usize, i: usize, b: u8) -> bool
+// The class whose name began at from and ends at i.
+pub fn class_at(s: &[u8], from: usize, i: usize) -> Gain
     requires { ⌜ (i < length (now s)) × (from ≤ i) ⌝ }
-    ensures { λ r. ⌜ r ≡ listed b (gained (stands (now (s .entry)) i (Stand.Name from)) (getD (now (s .entry)) i 0)) ⌝ }
+    ensures { λ r. ⌜ itemsOf r ≡ gained (stands (now (s .entry)) i (Stand.Name from)) (getD (now (s .entry)) i 0) ⌝ }
 {
     let end = i + 1;
     let w = &s[from..end];
     match find(w) {
-        Word::Whole(k) => classes::in_class(k, b),
-        _ => false,
+        Word::Whole(k) => Gain::Class(k),
+        _ => Gain::Nothing,
     }
 }
 
-// Whether b is in the item that the byte at i shows to be complete.
-pub fn gains(s: &[u8], i: usize, st: Stand, b: u8) -> bool
+// The item that the byte at i shows to be complete.
+pub fn item_at(s: &[u8], i: usize, st: Stand) -> Gain
     requires { ⌜ (i < length (now s)) × Sound i st ⌝ }
-    ensures { λ r. ⌜ r ≡ listed b (gained (stands (now (s .entry)) i st) (getD (now (s .entry)) i 0)) ⌝ }
+    ensures { λ r. ⌜ itemsOf r ≡ gained (stands (now (s .entry)) i st) (getD (now (s .entry)) i 0) ⌝ }
 {
     let c = s[i];
     match st {
         Stand::Held(a) => {
             if c == 45 {
-                return false;
+                return Gain::Nothing;
             }
-            between(a, a, b)
+            Gain::Span(a, a)
         }
         Stand::Dash(a) => {
             if c == 92 {
-                return false;
+                return Gain::Nothing;
             }
-            between(a, c, b)
+            Gain::Span(a, c)
         }
-        Stand::DashQuote(a) => between(a, c, b),
-        Stand::Name(from) => class_has(s, from, i, b),
-        _ => false,
+        Stand::DashQuote(a) => Gain::Span(a, c),
+        Stand::Name(from) => class_at(s, from, i),
+        _ => Gain::Nothing,
     }
 }
 
-pub fn or(a: bool, b: bool) -> bool
-    ensures { λ r. ⌜ r ≡ a || b ⌝ }
+// Whether b is one of the item's bytes.
+pub fn has(x: Gain, b: u8) -> bool
+    ensures { λ r. ⌜ r ≡ listed b (itemsOf x) ⌝ }
 {
-    if a {
-        return true;
+    match x {
+        Gain::Nothing => false,
+        Gain::Span(a, d) => between(a, d, b),
+        Gain::Class(k) => classes::in_class(k, b),
     }
-    b
 }
 
-// The rest of a set from i on, where b is among the items before it or not.
-pub fn scan(s: &[u8], i: usize, st: Stand, b: u8, hit: bool) -> Scanned
+// A mark is set, or stays.
+pub fn raise(hit: bool, old: u8) -> u8
+    ensures { λ r. ⌜ r ≡ raised hit old ⌝ }
+{
+    if hit {
+        return 1;
+    }
+    old
+}
+
+// The item's bytes are marked, and the other marks stay.
+pub fn mark_item(x: Gain, marks: &mut [u8])
+    requires { ⌜ length (now marks) ≡ 256 ⌝ }
+    ensures { λ _. ⌜ ((xs : List Item) → Marks (now (marks .entry)) xs → Marks (now (marks .exit)) (xs ++ itemsOf x)) ⌝ }
+{
+    if let Gain::Nothing = x {
+        return;
+    }
+    let mut b = 0usize;
+    while b < 256 {
+        let hit = has(x, b as u8);
+        marks[b] = raise(hit, marks[b]);
+        b += 1;
+    }
+}
+
+// The bytes that the rest of a set lists, from i on, are marked.
+pub fn mark(s: &[u8], i: usize, st: Stand, marks: &mut [u8])
+    requires { ⌜ (i ≤ length (now s)) × Sound i st × (length (now marks) ≡ 256) ⌝ }
+    ensures { λ _. ⌜ ((xs : List Item) → Marks (now (marks .entry)) xs → Listed (now (marks .exit)) (steps.scan (drop i (now (s .entry))) i (stands (now (s .entry)) i st) xs)) ⌝ }
+{
+    if s.len() <= i {
+        return;
+    }
+    let x = item_at(s, i, st);
+    mark_item(x, marks);
+    let next = step_on(s, i, st);
+    match next {
+        Stand::Bad => {}
+        Stand::Shut => {}
+        _ => mark(s, i + 1, next, marks),
+    }
+}
+
+// The bytes that the set lists whose `[` stands at i are marked.
+pub fn mark_set(s: &[u8], i: usize, marks: &mut [u8])
+    requires { ⌜ (i < length (now s)) × Marks (now marks) [] ⌝ }
+    ensures { λ _. ⌜ Listed (now (marks .exit)) (boxed (now (s .entry)) i) ⌝ }
+{
+    if crate::text::look(s, i + 1) == 94 {
+        mark(s, i + 2, Stand::Fresh, marks);
+        return;
+    }
+    mark(s, i + 1, Stand::Fresh, marks)
+}
+
+// The end of a set from i on.
+pub fn scan(s: &[u8], i: usize, st: Stand) -> Scanned
     requires { ⌜ (i ≤ length (now s)) × Sound i st ⌝ }
-    ensures { λ r. ⌜ ((xs : List Item) → hit ≡ listed b xs → r ≡ seen b (steps.scan (drop i (now (s .entry))) i (stands (now (s .entry)) i st) xs)) ⌝ }
+    ensures { λ r. ⌜ ((xs : List Item) → r ≡ seen (steps.scan (drop i (now (s .entry))) i (stands (now (s .entry)) i st) xs)) ⌝ }
 {
     if s.len() <= i {
         return Scanned::Wrong(i);
     }
-    let more = gains(s, i, st, b);
-    let found = or(hit, more);
     let next = step_on(s, i, st);
     match next {
         Stand::Bad => Scanned::Wrong(i),
-        Stand::Shut => Scanned::At {
-            end: i + 1,
-            hit: found,
-        },
-        _ => scan(s, i + 1, next, b, found),
+        Stand::Shut => Scanned::At(i + 1),
+        _ => scan(s, i + 1, next),
     }
 }
 
-// Whether the set whose `[` stands at i allows b.
-pub fn bracket(s: &[u8], i: usize, b: u8) -> Scanned
+// The end of the set whose `[` stands at i.
+pub fn bracket(s: &[u8], i: usize) -> Scanned
     requires { ⌜ i < length (now s) ⌝ }
-    ensures { λ r. ⌜ r ≡ boxed (now (s .entry)) i b ⌝ }
+    ensures { λ r. ⌜ r ≡ seen (boxed (now (s .entry)) i) ⌝ }
 {
     if crate::text::look(s, i + 1) == 94 {
-        let r = scan(s, i + 2, Stand::Fresh, b, false);
-        return match r {
-            Scanned::At { end, hit } => Scanned::At { end, hit: !hit },
-            Scanned::Wrong(q) => Scanned::Wrong(q),
-        };
+        return scan(s, i + 2, Stand::Fresh);
     }
-    scan(s, i + 1, Stand::Fresh, b, false)
+    scan(s, i + 1, Stand::Fresh)
 }

@@ -10,7 +10,7 @@ ghost use Rattle.net.specs.File.{rec-bytes};
 ghost use Rattle.pattern.specs.Pat.{startAt};
 ghost use Rattle.pattern.specs.Sets.{octet, octets};
 ghost use Rattle.pattern.specs.Reader.{read, single, setAt, alts, seq, piece, atom};
-ghost use Rattle.pattern.specs.Writing.{Room, coded, allowedAt, headOf, filed};
+ghost use Rattle.pattern.specs.Writing.{Room, coded, shown, headOf, filed};
 use crate::reading::Read;
 use crate::reading::Sum;
 use crate::reading::alternatives;
@@ -18,8 +18,7 @@ use crate::reading::atomic;
 use crate::reading::repeated;
 use crate::reading::sequence;
 use crate::reading::set;
-use crate::sets::Scanned;
-use crate::sets::bracket;
+use crate::sets::mark_set;
 use crate::text::bars;
 use crate::text::look;
 use crate::text::stops_at;
@@ -31,6 +30,7 @@ pub fn start_at(size: usize, n: usize, f: usize) -> usize
     if size == 0 { f } else { n }
 }
 
+// One record of each kind, from o on; the place after it is handed back.
 pub fn put_fork(out: &mut [u8], o: usize, a: usize, b: usize) -> usize
     requires { ⌜ (o + 3 ≤ length (now out)) × (a < 256) × (b < 256) ⌝ }
     ensures { λ r. ⌜ Wrote (now (out .entry)) (now (out .exit)) o r (rec-bytes (fork a b)) ⌝ }
@@ -62,27 +62,27 @@ pub fn put_range(out: &mut [u8], o: usize, lo: usize, hi: usize, next: usize) ->
     o + 4
 }
 
-// Whether the set whose `[` stands there allows b.
-pub fn allows(s: &[u8], at: usize, b: u8) -> bool
-    requires { ⌜ at < length (now s) ⌝ }
-    ensures { λ r. ⌜ r ≡ allowedAt (now (s .entry)) at b ⌝ }
+// Whether a set with these marks allows b, after `^` or without it.
+pub fn allows(marks: &[u8], caret: bool, b: usize) -> bool
+    requires { ⌜ b < length (now marks) ⌝ }
+    ensures { λ r. ⌜ r ≡ shown caret (now (marks .entry)) b ⌝ }
 {
-    match bracket(s, at, b) {
-        Scanned::At { end: _, hit } => hit,
-        Scanned::Wrong(_) => false,
+    if caret {
+        return marks[b] != 1;
     }
+    marks[b] == 1
 }
 
 // Eight bits of the set's MASK from byte b on, b's lowest.
-pub fn eight(s: &[u8], at: usize, b: usize) -> u8
-    requires { ⌜ (at < length (now s)) × (b + 8 ≤ 256) ⌝ }
-    ensures { λ r. ⌜ r ≡ octet (allowedAt (now (s .entry)) at) 8 b ⌝ }
+pub fn eight(marks: &[u8], caret: bool, b: usize) -> u8
+    requires { ⌜ (length (now marks) ≡ 256) × (b + 8 ≤ 256) ⌝ }
+    ensures { λ r. ⌜ r ≡ octet (shown caret (now (marks .entry))) 8 b ⌝ }
 {
     let mut bits = 0usize;
     let mut j = 8usize;
     while 0 < j {
         j -= 1;
-        if allows(s, at, (b + j) as u8) {
+        if allows(marks, caret, b + j) {
             bits = 2 * bits + 1;
         } else {
             bits = 2 * bits;
@@ -91,15 +91,15 @@ pub fn eight(s: &[u8], at: usize, b: usize) -> u8
     bits as u8
 }
 
-// The record of the set whose `[` stands there.
-pub fn put_mask(s: &[u8], at: usize, out: &mut [u8], o: usize, next: usize) -> usize
-    requires { ⌜ (at < length (now s)) × (o + 34 ≤ length (now out)) × (next < 256) ⌝ }
-    ensures { λ r. ⌜ Wrote (now (out .entry)) (now (out .exit)) o r (rec-bytes (mask (octets (allowedAt (now (s .entry)) at) 32 0) next)) ⌝ }
+// The record of a set with these marks.
+pub fn put_mask(marks: &[u8], caret: bool, out: &mut [u8], o: usize, next: usize) -> usize
+    requires { ⌜ (length (now marks) ≡ 256) × (o + 34 ≤ length (now out)) × (next < 256) ⌝ }
+    ensures { λ r. ⌜ Wrote (now (out .entry)) (now (out .exit)) o r (rec-bytes (mask (octets (shown caret (now (marks .entry))) 32 0) next)) ⌝ }
 {
     out[o] = 18;
     let mut k = 0usize;
     while k < 32 {
-        out[o + 1 + k] = eight(s, at, 8 * k);
+        out[o + 1 + k] = eight(marks, caret, 8 * k);
         k += 1;
     }
     out[o + 33] = next as u8;
@@ -115,7 +115,10 @@ pub fn emit_set(s: &[u8], at: usize, out: &mut [u8], o: usize, n: usize, f: usiz
     let Read::Ok { end: _, sum: _ } = found else {
         return o;
     };
-    put_mask(s, at, out, o, f)
+    let mut marks = [0u8; 256];
+    mark_set(s, at, &mut marks);
+    let caret = look(s, at + 1) == 94;
+    put_mask(&marks, caret, out, o, f)
 }
 
 // One atom that is no group.
@@ -152,6 +155,7 @@ pub fn emit_lone(s: &[u8], at: usize, out: &mut [u8], o: usize, n: usize, f: usi
     put_range(out, o, c, c, f)
 }
 
+// Alternatives: the first record has number n and stands at o, and f is what follows.
 pub fn emit_alternatives(
     s: &[u8],
     at: usize,
@@ -184,6 +188,7 @@ pub fn emit_alternatives(
     emit_alternatives(s, end + 1, depth, out, b, n + 1 + size, f)
 }
 
+// A sequence.
 pub fn emit_sequence(
     s: &[u8],
     at: usize,
@@ -214,6 +219,7 @@ pub fn emit_sequence(
     emit_sequence(s, end, depth, out, a, n + size, f)
 }
 
+// An atom, and the FORK that repeats it.
 pub fn emit_repeated(
     s: &[u8],
     at: usize,
@@ -250,6 +256,7 @@ pub fn emit_repeated(
     emit_atomic(s, at, depth, out, o, n, f)
 }
 
+// An atom.
 pub fn emit_atomic(
     s: &[u8],
     at: usize,
@@ -278,6 +285,7 @@ pub fn emit_atomic(
     emit_alternatives(s, at + 1, depth + 1, out, o, n, f)
 }
 
+// The HEAD.
 pub fn put_head(out: &mut [u8], tags: u8, count: usize)
     requires { ⌜ (4 ≤ length (now out)) × (count < 256) ⌝ }
     ensures { λ _. ⌜ Wrote (now (out .entry)) (now (out .exit)) 0 4 (headOf tags count) ⌝ }
@@ -288,6 +296,7 @@ pub fn put_head(out: &mut [u8], tags: u8, count: usize)
     out[3] = count as u8;
 }
 
+// The last record.
 pub fn put_end(out: &mut [u8], o: usize, answer: u8) -> usize
     requires { ⌜ o + 2 ≤ length (now out) ⌝ }
     ensures { λ r. ⌜ Wrote (now (out .entry)) (now (out .exit)) o r (rec-bytes (end answer)) ⌝ }

@@ -18,10 +18,10 @@ enum-known-q : tie.Need-enum-known-q
 enum-known-q c = search needs
 
 returns : tie.Need-returns
-returns c = let v = c .before .before .end .given .0 in set-read 0 (c .before .before .before .before .before .before .args .s .now) (c .before .before .before .before .before .before .args .at) (v .0) (v .1 .0) (c .one .result) (sym (c .before .before .end .given .1) ∙ c .before .before .before .before .bracket .ensures) (c .one .ensures)
+returns c = set-read (c .before .before .before .before .before .before .args .s .now) (c .before .before .before .before .before .before .args .at) (c .before .before .end .given .0 .0) (c .one .result) (sym (c .before .before .end .given .1) ∙ c .before .before .before .before .bracket .ensures) (c .one .ensures)
 
 returns-2 : tie.Need-returns-2
-returns-2 c = set-wrong 0 (c .before .before .before .before .before .args .s .now) (c .before .before .before .before .before .args .at) (c .before .q .given .0 .0) (sym (c .before .q .given .1) ∙ c .before .before .before .bracket .ensures)
+returns-2 c = set-wrong (c .before .before .before .before .before .args .s .now) (c .before .before .before .before .before .args .at) (c .before .q .given .0 .0) (sym (c .before .q .given .1) ∙ c .before .before .before .bracket .ensures)
 
 pub set-spec : {M : Type 1} → statement M
 set-spec =

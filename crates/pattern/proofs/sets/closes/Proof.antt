@@ -4,7 +4,7 @@ use borrow.Author.Tests.{ne-eqb}
 use Rattle.ground.specs.Pick.{pick}
 use Rattle.pattern.specs.Sets.{ends}
 use Rattle.pattern.specs.Standing.{stands, Sound}
-use Rattle.pattern.proofs.Common.{pick-no}
+use Rattle.ground.proofs.Picks.{passed}
 use borrow.Author.Needs.{needs}
 use Rattle.pattern.proofs.sets.closes.Statement.{statement}
 use Rattle.pattern.proofs.sets.closes.Tie as tie
@@ -17,7 +17,7 @@ begins-requires : tie.Need-begins-requires
 begins-requires c κs = search needs
 
 returns-2 : tie.Need-returns-2
-returns-2 c = record { is = c .begins .ensures .is ∙ sym (pick-no _ _ _ (ne-eqb _ _ (c .before .if1 .left))); sound = c .begins .ensures .sound }
+returns-2 c = record { is = c .begins .ensures .is ∙ sym (passed _ _ (ne-eqb _ _ (c .before .if1 .left))); sound = c .begins .ensures .sound }
 
 pub closes-spec : {M : Type 1} → statement M
 closes-spec = tie.close (tie.spec returns begins-requires returns-2)

@@ -6,7 +6,7 @@ use Rattle.pattern.specs.Sets as sets
 use Rattle.pattern.specs.Sets.{setOn, item, ends, upto}
 use Rattle.pattern.specs.Standing.{stands, Sound}
 use Rattle.pattern.specs.declared.sets.Stand.the-variants.{Fresh, Ready, Held, Quote, Dash, DashQuote, Name, Shut, Bad}
-use Rattle.pattern.proofs.Common.{pick-yes, pick-no}
+use Rattle.ground.proofs.Picks.{picked, passed}
 use Rattle.pattern.proofs.SetSteps.{led, from-below}
 use borrow.Author.Needs.{needs}
 use Rattle.pattern.proofs.sets.step_on.Statement.{statement}
@@ -32,7 +32,7 @@ enum-known-st c = search needs
 
 returns : tie.Need-returns
 unfolding setOn stands Sound
-returns c = let a = c .before .before .before .before .before .before .args in let s = a .s .now in let i = a .i in let x = getD s i 0 in let v = c .before .before .st .given .0 .0 in led s i (a .st) (Held v) (sets.dash v) x (Dash v) (c .before .before .st .given .1) (pick-yes _ _ _ (eq-eqb _ _ (c .if1 .taken))) (record { is = refl; sound = tt })
+returns c = let a = c .before .before .before .before .before .before .args in let s = a .s .now in let i = a .i in let x = getD s i 0 in let v = c .before .before .st .given .0 .0 in led s i (a .st) (Held v) (sets.dash v) x (Dash v) (c .before .before .st .given .1) (picked _ _ (eq-eqb _ _ (c .if1 .taken))) (record { is = refl; sound = tt })
 
 closes-requires-2 : tie.Need-closes-requires-2
 closes-requires-2 c κs = search needs
@@ -74,7 +74,7 @@ returns-3 c = let a = c .before .before .before .before .before .args in let s =
 
 returns-4 : tie.Need-returns-4
 unfolding setOn stands
-returns-4 c = let a = c .before .before .before .before .before .before .before .args in let s = a .s .now in let i = a .i in let x = getD s i 0 in let v = c .before .before .before .st .given .0 .0 in led s i (a .st) (Held v) (ends x) x (c .closes2 .result) (c .before .before .before .st .given .1) (pick-no _ _ _ (ne-eqb _ _ (c .before .if1 .left))) (c .closes2 .ensures)
+returns-4 c = let a = c .before .before .before .before .before .before .before .args in let s = a .s .now in let i = a .i in let x = getD s i 0 in let v = c .before .before .before .st .given .0 .0 in led s i (a .st) (Held v) (ends x) x (c .closes2 .result) (c .before .before .before .st .given .1) (passed _ _ (ne-eqb _ _ (c .before .if1 .left))) (c .closes2 .ensures)
 
 returns-5 : tie.Need-returns-5
 unfolding setOn stands Sound

@@ -8,16 +8,16 @@ use lib.ListN.{length, set, length-set}
 use Rattle.ground.specs.Lists.{Wrote}
 use Rattle.ground.proofs.Stores.{wrote-none, wrote-length}
 use Rattle.pattern.specs.Sets.{octets}
-use Rattle.pattern.specs.Writing.{allowedAt}
+use Rattle.pattern.specs.Writing.{shown}
 use Rattle.pattern.proofs.Masks.{body-more, mask-wrote}
 use Rattle.pattern.proofs.writing.put_mask.Statement.{statement}
 use Rattle.pattern.proofs.writing.put_mask.Tie as tie
 
 abbrev Inv-loop : tie.InvT-loop
-Inv-loop s at out₀ o next k₀ out k = (k ≤ 32) × Wrote out₀ out (o + 1) (o + 1 + k) (octets (allowedAt s at) k 0)
+Inv-loop marks caret out₀ o next k₀ out k = (k ≤ 32) × Wrote out₀ out (o + 1) (o + 1 + k) (octets (shown caret marks) k 0)
 
 abbrev μ-loop : tie.MeasureT-loop
-μ-loop s at out₀ o next k₀ out k = 32 - k
+μ-loop marks caret out₀ o next k₀ out k = 32 - k
 
 slice-write-out : tie.Need-slice-write-out Inv-loop μ-loop
 slice-write-out c = search needs
@@ -39,7 +39,7 @@ add-out-2 : tie.Need-add-out-2 Inv-loop μ-loop
 add-out-2 c = search needs
 
 slice-write-out-2 : tie.Need-slice-write-out-2 Inv-loop μ-loop
-slice-write-out-2 c = let a = c .before .before .before .before .before .args in let f = allowedAt (a .s .now) (a .at) in let i = c .before .before .loop .inv in let k = c .before .before .loop .k in let l = wrote-length (octets f k 0) (i .1) in omega (arith, length-set (a .out .now) (a .o) 18)
+slice-write-out-2 c = let a = c .before .before .before .before .before .args in let f = shown (a .caret) (a .marks .now) in let i = c .before .before .loop .inv in let k = c .before .before .loop .k in let l = wrote-length (octets f k 0) (i .1) in omega (arith, length-set (a .out .now) (a .o) 18)
 
 add-k : tie.Need-add-k Inv-loop μ-loop
 add-k c = search needs
@@ -48,7 +48,7 @@ loop-less : tie.Need-loop-less Inv-loop μ-loop
 loop-less c = search needs
 
 loop-again : tie.Need-loop-again Inv-loop μ-loop
-loop-again c = let a = c .before .before .before .before .before .args in let f = allowedAt (a .s .now) (a .at) in let i = c .before .before .loop .inv in let k = c .before .before .loop .k in let l = wrote-length (octets f k 0) (i .1) in (omega arith, body-more f (set (a .out .now) (a .o) 18) (c .before .before .loop .out) (a .o + 1) k (c .eight .result) (i .1) (c .eight .ensures))
+loop-again c = let a = c .before .before .before .before .before .args in let f = shown (a .caret) (a .marks .now) in let i = c .before .before .loop .inv in let k = c .before .before .loop .k in let l = wrote-length (octets f k 0) (i .1) in (omega arith, body-more f (set (a .out .now) (a .o) 18) (c .before .before .loop .out) (a .o + 1) k (c .eight .result) (i .1) (c .eight .ensures))
 
 cast-out : tie.Need-cast-out Inv-loop μ-loop
 cast-out c = search needs
@@ -57,16 +57,16 @@ add-out-3 : tie.Need-add-out-3 Inv-loop μ-loop
 add-out-3 c = search needs
 
 slice-write-out-3 : tie.Need-slice-write-out-3 Inv-loop μ-loop
-slice-write-out-3 c = let a = c .before .before .before .before .args in let f = allowedAt (a .s .now) (a .at) in let i = c .before .loop .inv in let k = c .before .loop .k in let l = wrote-length (octets f k 0) (i .1) in omega (arith, length-set (a .out .now) (a .o) 18)
+slice-write-out-3 c = let a = c .before .before .before .before .args in let f = shown (a .caret) (a .marks .now) in let i = c .before .loop .inv in let k = c .before .loop .k in let l = wrote-length (octets f k 0) (i .1) in omega (arith, length-set (a .out .now) (a .o) 18)
 
 add-result : tie.Need-add-result Inv-loop μ-loop
 add-result c = search needs
 
 same-length : tie.Need-same-length Inv-loop μ-loop
-same-length c = let a = c .before .before .before .before .args in let f = allowedAt (a .s .now) (a .at) in let i = c .before .loop .inv in let k = c .before .loop .k in let l = wrote-length (octets f k 0) (i .1) in length-set (c .before .loop .out) (a .o + 33) (a .next) ∙ l ∙ length-set (a .out .now) (a .o) 18
+same-length c = let a = c .before .before .before .before .args in let f = shown (a .caret) (a .marks .now) in let i = c .before .loop .inv in let k = c .before .loop .k in let l = wrote-length (octets f k 0) (i .1) in length-set (c .before .loop .out) (a .o + 33) (a .next) ∙ l ∙ length-set (a .out .now) (a .o) 18
 
 returns : tie.Need-returns Inv-loop μ-loop
-returns c = let a = c .before .before .before .before .args in let f = allowedAt (a .s .now) (a .at) in let i = c .before .loop .inv in let k = c .before .loop .k in let l = wrote-length (octets f k 0) (i .1) in mask-wrote f (a .out .now) (c .before .loop .out) (a .o) k (a .next) (omega arith) (i .1)
+returns c = let a = c .before .before .before .before .args in let f = shown (a .caret) (a .marks .now) in let i = c .before .loop .inv in let k = c .before .loop .k in let l = wrote-length (octets f k 0) (i .1) in mask-wrote f (a .out .now) (c .before .loop .out) (a .o) k (a .next) (omega arith) (i .1)
 
 pub put-mask-spec : {M : Type 1} → statement M
 put-mask-spec =
