@@ -1,9 +1,8 @@
 -- REGISTERS and SITUATIONS are answered exactly as document 01 says, and a second result that keeps the promise is the same. Assumes nothing.
-use mathlib.Core.Path.{_≡_, refl, sym, ap, _∙_, subst}
-use mathlib.Core.Logic.{_⊎_, inl, inr}
+use mathlib.Core.Path.{_≡_, refl, sym, ap, _∙_}
 use mathlib.Core.Bool.{Bool, true, false}
 use mathlib.Core.List.{List}
-use Prim.Native.Nat.{ℕ, _≤_, _<_}
+use Prim.Native.Nat.{ℕ, _≤_}
 use native.Mathlib.Omega.{arith}
 use lib.Dec.{ltb}
 use lib.ListN.{length}
@@ -12,7 +11,6 @@ use Rattle.ground.specs.Pick.{pick}
 use Rattle.net.specs.Rec.{Net}
 use Rattle.net.specs.Items.{NetRead, net, refused, NetFault, net-kind, net-short, net-field, net-extra, netOf, number}
 use Rattle.paths.specs.Limits.{Over-registers, Over-situations}
-use Rattle.paths.proofs.Member.{Bool-cases}
 use Rattle.card.specs.Table.{bytesOf}
 use Rattle.build.specs.Card.{tableOf}
 use Rattle.build.specs.Build.{over-registers, over-situations, Done, refuses, gives, makes, of-net, buildOf, Builds}
