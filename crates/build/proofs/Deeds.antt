@@ -1,15 +1,14 @@
 -- What a byte does, from the next situation and where its registers come from. Assumes nothing.
-use mathlib.Core.Path.{_≡_, refl, sym, ap, _∙_, subst}
+use mathlib.Core.Path.{_≡_, sym, ap, _∙_, subst}
 use mathlib.Core.Logic.{_⊎_, inl, inr}
-use mathlib.Core.Bool.{Bool, true, false}
-use mathlib.Core.List.{List, [], _∷_, map}
+use mathlib.Core.Bool.{true, false}
+use mathlib.Core.List.{List, [], map}
 use Prim.Native.Nat.{ℕ, _+_, _≤_, _<_}
 use native.Mathlib.Omega.{arith}
-use lib.ListN.{length, getD}
+use lib.ListN.{length}
 use Rattle.net.specs.Rec.{Net}
 use Rattle.paths.specs.Registers.{registers, next, origins}
 use Rattle.paths.specs.Equal.{same-situation}
-use Rattle.paths.specs.Numbering.{among}
 use Rattle.paths.proofs.Member.{Bool-cases}
 use Rattle.explore.specs.Lists.{position}
 use Rattle.explore.specs.States.{threads-of}
@@ -22,7 +21,6 @@ use Rattle.explore.proofs.Closed.{found-at}
 use Rattle.build.specs.Card.{State, commands}
 use Rattle.build.specs.Writing.{orders-of, Closed, Does}
 use Rattle.build.specs.declared.Orders.{Orders}
-use Rattle.build.specs.declared.Deed.{Deed}
 
 module _ (A : Net) (N : ℕ) (w : List ℕ) (count : ℕ) (l : State) (b : ℕ) (k : Kept N w count) (in-it : Closed A (slots w 0 count) l b) (t : Numbered) (step : Stepped A N b l t) where
   -- what is stored needs at most 64 registers

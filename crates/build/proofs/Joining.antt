@@ -1,19 +1,16 @@
 -- Rows joined one byte after another. Assumes nothing.
 use mathlib.Core.Path.{_≡_, refl, sym, ap, _∙_, subst}
-use mathlib.Core.Logic.{_⊎_, inl, inr}
 use mathlib.Core.Bool.{Bool, true, false, _&&_, cond}
-use mathlib.Core.List.{List, [], _∷_, _++_, map, append-nil}
-use Prim.Native.Nat.{ℕ, zero, suc, _+_, _-_, _≤_, _<_}
-use native.Mathlib.Numerals.{add-one}
+use mathlib.Core.List.{List, [], _∷_, map, append-nil}
+use Prim.Native.Nat.{ℕ, suc, _+_, _-_, _≤_, _<_}
 use native.Mathlib.Omega.{arith}
 use lib.Dec.{eqb, eqb→eq, eqb-refl}
-use lib.ListN.{length}
 use borrow.Author.Tests.{eq-eqb}
 use Rattle.ground.specs.Lists.{each}
 use Rattle.net.specs.Rec.{Net}
 use Rattle.paths.specs.Registers.{next, origins}
 use Rattle.paths.specs.Equal.{same-list, same-situation}
-use Rattle.paths.proofs.Member.{Bool-cases, T-of, of-T}
+use Rattle.paths.proofs.Member.{T-of, of-T}
 use Rattle.card.specs.Table.{Cmd, move, put, Row, row-bytes}
 use Rattle.explore.specs.Lists.{span, position}
 use Rattle.build.specs.Card.{State, need, commands, byte-row, same-cmd, alike, both, ahead, joined}

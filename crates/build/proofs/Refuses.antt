@@ -1,9 +1,8 @@
 -- REGISTERS and SITUATIONS are answered exactly as document 01 says, and a second result that keeps the promise is the same. Assumes nothing.
-use mathlib.Core.Path.{_≡_, refl, sym, ap, _∙_, subst}
-use mathlib.Core.Logic.{_⊎_, inl, inr}
+use mathlib.Core.Path.{_≡_, refl, sym, ap, _∙_}
 use mathlib.Core.Bool.{Bool, true, false}
 use mathlib.Core.List.{List}
-use Prim.Native.Nat.{ℕ, _≤_, _<_}
+use Prim.Native.Nat.{ℕ, _≤_}
 use native.Mathlib.Omega.{arith}
 use lib.Dec.{ltb}
 use lib.ListN.{length}
@@ -12,7 +11,6 @@ use Rattle.ground.specs.Pick.{pick}
 use Rattle.net.specs.Rec.{Net}
 use Rattle.net.specs.Items.{NetRead, net, refused, NetFault, net-kind, net-short, net-field, net-extra, netOf, number}
 use Rattle.paths.specs.Limits.{Over-registers, Over-situations}
-use Rattle.paths.proofs.Member.{Bool-cases}
 use Rattle.card.specs.Table.{bytesOf}
 use Rattle.build.specs.Card.{tableOf}
 use Rattle.build.specs.Build.{over-registers, over-situations, Done, refuses, gives, makes, of-net, buildOf, Builds}
@@ -71,29 +69,29 @@ module _ (file : List ℕ) (room : ℕ) (out : List ℕ) where
     situations-refused n o = ap (λ d. d .result .code) (build-makes b tags A legal) ∙ says-11 tags A out (not-true (over-registers A) (registers-only A) n) (situations-true A o)
 
 -- what an answer 10 or 11 comes from
-pub record Cause (file : List ℕ) (room : ℕ) (P : Net → Type 0) : Type 0 where
+pub record Cause (file : List ℕ) (room : ℕ) (P : ℕ → Net → Type 0) : Type 0 where
   pub enough : 65536 ≤ room
   pub tags : ℕ
   pub A : Net
   pub legal : netOf file ≡ net tags A
-  pub why : P A
+  pub why : P tags A
 
-number-small : (f : NetFault) → number f ≤ 8
+number-early : (f : NetFault) → (5 ≤ number f) × (number f ≤ 9)
 unfolding number
-number-small net-kind = omega arith
-number-small net-short = omega arith
-number-small net-field = omega arith
-number-small net-extra = omega arith
+number-early net-kind = (omega arith, omega arith)
+number-early net-short = (omega arith, omega arith)
+number-early net-field = (omega arith, omega arith)
+number-early net-extra = (omega arith, omega arith)
 
-module _ (file : List ℕ) (room : ℕ) (out : List ℕ) (c : ℕ) (late : 9 < c) (P : Net → Type 0) (why : (tags : ℕ) (A : Net) → makes tags A out .result .code ≡ c → P A) where
+module _ (file : List ℕ) (room : ℕ) (out : List ℕ) (c : ℕ) (late : (n : ℕ) → 5 ≤ n → n ≤ 9 → n ≡ c → ⊥) (P : ℕ → Net → Type 0) (why : (tags : ℕ) (A : Net) → makes tags A out .result .code ≡ c → P tags A) where
   by-net : 65536 ≤ room → (n : NetRead) → netOf file ≡ n → of-net n out .result .code ≡ c → Cause file room P
   unfolding of-net
   by-net b (net t B) q e = record { enough = b; tags = t; A = B; legal = q; why = why t B e }
-  by-net b (refused f) q e = absurd (omega (arith, number-small f))
+  by-net b (refused f) q e = absurd (late (number f) (number-early f .0) (number-early f .1) e)
 
   by-room : (t : Bool) → ltb room 65536 ≡ t → pick t (refuses 9 out) (of-net (netOf file) out) .result .code ≡ c → Cause file room P
   unfolding pick
-  by-room true z e = absurd (omega arith)
+  by-room true z e = absurd (late 9 (omega arith) (omega arith) e)
   by-room false z e = by-net (ltb-false room 65536 z) (netOf file) refl e
 
   past-net : buildOf file room out .result .code ≡ c → Cause file room P
@@ -101,15 +99,57 @@ module _ (file : List ℕ) (room : ℕ) (out : List ℕ) (c : ℕ) (late : 9 < c
   past-net e = by-room (ltb room 65536) refl e
 
 module _ (file : List ℕ) (room : ℕ) (out : List ℕ) where
-  pub registers-only-so : buildOf file room out .result .code ≡ 10 → Cause file room Over-registers
-  registers-only-so = past-net file room out 10 (omega arith) Over-registers (λ tags A e. registers-only A (order-10 tags A out (over-registers A) (over-situations A) (ltb (length out) (length (bytesOf (tableOf tags A)))) (ap (λ d. d .result .code) (sym (as-ordered tags A out)) ∙ e)))
+  pub registers-only-so : buildOf file room out .result .code ≡ 10 → Cause file room (λ tags A. Over-registers A)
+  registers-only-so = past-net file room out 10 (λ n a b e. omega arith) (λ tags A. Over-registers A) (λ tags A e. registers-only A (order-10 tags A out (over-registers A) (over-situations A) (ltb (length out) (length (bytesOf (tableOf tags A)))) (ap (λ d. d .result .code) (sym (as-ordered tags A out)) ∙ e)))
 
-  pub situations-only-so : buildOf file room out .result .code ≡ 11 → Cause file room (λ A. Over-situations A × (¬ Over-registers A))
+  pub situations-only-so : buildOf file room out .result .code ≡ 11 → Cause file room (λ tags A. Over-situations A × (¬ Over-registers A))
   situations-only-so =
-      past-net file room out 11 (omega arith) (λ A. Over-situations A × (¬ Over-registers A))
+      past-net file room out 11 (λ n a b e. omega arith) (λ tags A. Over-situations A × (¬ Over-registers A))
       (λ tags A e.
       let r = order-11 tags A out (over-registers A) (over-situations A) (ltb (length out) (length (bytesOf (tableOf tags A)))) (ap (λ d. d .result .code) (sym (as-ordered tags A out)) ∙ e) in
       (situations-only A (r .1), not-false (over-registers A) (r .0) (registers-true A)))
+
+-- ---- what an OK comes from, and all that it then says
+
+pub record Made (file : List ℕ) (room : ℕ) (out : List ℕ) : Type 0 where
+  pub enough : 65536 ≤ room
+  pub tags : ℕ
+  pub A : Net
+  pub legal : netOf file ≡ net tags A
+  pub slim : ¬ Over-registers A
+  pub few : ¬ Over-situations A
+  pub fits : length (bytesOf (tableOf tags A)) ≤ length out
+  pub whole : buildOf file room out ≡ gives tags A out
+
+module _ (tags : ℕ) (A : Net) (out : List ℕ) where
+  order-0 : (r s t : Bool) → by-order tags A out r s t .result .code ≡ 0 → (r ≡ false) × ((s ≡ false) × (t ≡ false))
+  unfolding by-order pick
+  order-0 true s t e = absurd (omega arith)
+  order-0 false true t e = absurd (omega arith)
+  order-0 false false true e = absurd (omega arith)
+  order-0 false false false e = (refl, (refl, refl))
+
+  says-all : over-registers A ≡ false → over-situations A ≡ false → ltb (length out) (length (bytesOf (tableOf tags A))) ≡ false → makes tags A out ≡ gives tags A out
+  unfolding makes pick
+  says-all e f g = rw (e, f, g)
+
+module _ (file : List ℕ) (room : ℕ) (out : List ℕ) where
+  pub made-so : buildOf file room out .result .code ≡ 0 → Made file room out
+  made-so e =
+      let c = past-net file room out 0 (λ n a b q. omega arith) (λ tags A. makes tags A out .result .code ≡ 0) (λ tags A q. q) e in
+      let t = c .tags in
+      let N = c .A in
+      let r = order-0 t N out (over-registers N) (over-situations N) (ltb (length out) (length (bytesOf (tableOf t N)))) (ap (λ d. d .result .code) (sym (as-ordered t N out)) ∙ c .why) in
+      record {
+        enough = c .enough;
+        tags = t;
+        A = N;
+        legal = c .legal;
+        slim = not-false (over-registers N) (r .0) (registers-true N);
+        few = not-false (over-situations N) (r .1 .0) (situations-true N);
+        fits = ltb-false (length out) (length (bytesOf (tableOf t N))) (r .1 .1);
+        whole = build-makes file room out (c .enough) t N (c .legal) ∙ says-all t N out (r .0) (r .1 .0) (r .1 .1);
+      }
 
 -- ---- a second result that keeps the promise
 

@@ -3,7 +3,7 @@ use mathlib.Core.Path.{_≡_, refl, sym, ap, _∙_, subst}
 use mathlib.Core.Bool.{Bool, true, false, cond}
 use mathlib.Core.List.{List, [], _∷_, _++_, map}
 use mathlib.Core.Option.{Option, none, some}
-use Prim.Native.Nat.{ℕ, zero, suc, _+_, _-_, _*_, _≤_, _<_, max}
+use Prim.Native.Nat.{ℕ, suc, _+_, _-_, _*_, _≤_, _<_, max}
 use native.Mathlib.Numerals.{add-one}
 use native.Mathlib.Nat.{max-zero, zero-max, max-eq-left, max-eq-right, max-le, le-max-left, le-max-right}
 use native.Mathlib.Omega.{arith}
@@ -13,17 +13,15 @@ use lib.Seq.{drop-cons, getD-take, length-take-le}
 use borrow.Author.Tests.{eqb-true}
 use Rattle.ground.specs.Lists.{each}
 use Rattle.net.specs.Rec.{Rec, range, mask, fork, tag, end, Net, rec}
-use Rattle.paths.specs.Search.{Thread}
 use Rattle.paths.specs.Situation.{ending, first-end}
-use Rattle.paths.specs.Registers.{Tags, registers, situation}
-use Rattle.card.specs.Table.{Cmd, move, put, cmd-bytes, row-bytes, sit-bytes, bytesOf}
+use Rattle.paths.specs.Registers.{registers, situation}
+use Rattle.card.specs.Table.{put, cmd-bytes, row-bytes, sit-bytes, bytesOf}
 use Rattle.explore.specs.Lists.{span}
 use Rattle.explore.specs.States.{opt, tags-of, thread-of, threads-of}
 use Rattle.explore.specs.Onward.{closing-of}
 use Rattle.explore.specs.Slots.{slot, slots}
 use Rattle.explore.specs.declared.Entry.{Entry}
 use Rattle.explore.specs.declared.Found.{Found}
-use Rattle.explore.specs.declared.Closing.{Closing}
 use Rattle.explore.specs.declared.Closing.the-variants.{Open, With}
 use Rattle.explore.proofs.Bits.{getD-map}
 use Rattle.explore.proofs.Exploration.{slots-length, loaded-fit, loaded-count}

@@ -12,18 +12,17 @@ use lib.Seq.{getD-take, sets, take-suc-set, take-all}
 use borrow.Author.Tests.{lt-ltb, le-ltb, ltb-true, eqb-true, eqb-false}
 use Rattle.ground.specs.Pick.{pick}
 use Rattle.net.specs.Rec.{Rec, range, mask, fork, tag, end, Net}
-use Rattle.net.specs.Items.{NetRead, net, refused, netOf, codeOf, number, rec-at, net-at, Placed}
+use Rattle.net.specs.Items.{NetRead, net, refused, netOf, codeOf, rec-at, net-at, Placed}
 use Rattle.net.specs.File.{Fits}
 use Rattle.net.specs.Calls.{LayoutOf}
 use Rattle.net.specs.declared.Layout.{Layout}
 use Rattle.paths.specs.Registers.{registers, situation}
 use Rattle.paths.specs.Equal.{same-situation}
-use Rattle.paths.specs.Numbering.{among, numbered}
-use Rattle.paths.specs.Limits.{Sit, all, first, Over-registers, Over-situations, Closes}
+use Rattle.paths.specs.Numbering.{numbered}
+use Rattle.paths.specs.Limits.{all, first, Over-registers, Over-situations, Closes}
 use Rattle.paths.proofs.Member.{Bool-cases}
 use Rattle.paths.proofs.Limits.{first-97, numbered-at, numbered-zero, closed-numbered, closes-registers, closes-situations, stop-registers, stop-situations}
 use Rattle.card.specs.Table.{bytesOf}
-use Rattle.explore.specs.Lists.{span}
 use Rattle.explore.specs.Items.{Inside, Formed}
 use Rattle.explore.specs.Slots.{slot, slots}
 use Rattle.explore.specs.Explore.{Kept, Explores}

@@ -1,6 +1,6 @@
 -- What `build` answers, writes and leaves, for every input. Assumes nothing: these are definitions.
 use mathlib.Core.Path.{_≡_}
-use mathlib.Core.Bool.{Bool, true, false, _||_}
+use mathlib.Core.Bool.{Bool, false, _||_}
 use mathlib.Core.List.{List, [], _∷_}
 use Prim.Native.Nat.{ℕ}
 use lib.Dec.{ltb}
@@ -10,7 +10,7 @@ use Rattle.ground.specs.Pick.{pick}
 use Rattle.net.specs.Rec.{Net}
 use Rattle.net.specs.Items.{NetRead, net, refused, netOf, number}
 use Rattle.card.specs.Table.{bytesOf}
-use Rattle.build.specs.Card.{State, states, need, most, tableOf}
+use Rattle.build.specs.Card.{states, need, most, tableOf}
 use Rattle.build.specs.declared.Built.{Built}
 
 abbrev pub any : {A : Type 0} → (A → Bool) → List A → Bool

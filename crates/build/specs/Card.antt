@@ -1,10 +1,10 @@
 -- Document 01, "Table file": "The builder's table is one exact byte string: registers is the largest need of any situation, the answer is the first
 -- END in the list, commands go from one numbering to the next, a MOVE onto itself is left out, neighbouring rows with equal next and commands are
 -- joined." Assumes nothing: these are definitions.
-use mathlib.Core.Bool.{Bool, true, false, _&&_, cond}
-use mathlib.Core.List.{List, [], _∷_, _++_, map}
+use mathlib.Core.Bool.{Bool, false, _&&_, cond}
+use mathlib.Core.List.{List, [], _∷_, map}
 use mathlib.Core.Option.{Option, none, some}
-use Prim.Native.Nat.{ℕ, zero, suc, max}
+use Prim.Native.Nat.{ℕ, suc, max}
 use lib.Dec.{eqb}
 use lib.ListN.{length}
 use Rattle.net.specs.Rec.{Net}

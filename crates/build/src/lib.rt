@@ -38,7 +38,7 @@ pub struct Orders {
 }
 
 impl Orders {
-    pub fn new() -> Orders
+    fn new() -> Orders
         ensures { λ a. ⌜ a .n ≡ 0 ⌝ }
     {
         let o = Order {
@@ -50,7 +50,7 @@ impl Orders {
         Orders { n: 0, list }
     }
 
-    pub fn with(mut self, o: Order) -> Orders
+    fn with(mut self, o: Order) -> Orders
         requires { ⌜ self .n < 64 ⌝ }
         ensures { λ a. ⌜ (orders-of a ≡ orders-of self ++ (order-of o ∷ [])) × (a .n ≡ self .n + 1) ⌝ }
     {
@@ -61,7 +61,7 @@ impl Orders {
     }
 
     // Register k filled from `from`: a MOVE onto itself is left out.
-    pub fn fill(self, fresh: u8, k: u8, from: u8) -> Orders
+    fn fill(self, fresh: u8, k: u8, from: u8) -> Orders
         requires { ⌜ self .n < 64 ⌝ }
         ensures { λ a. ⌜ (orders-of a ≡ orders-of self ++ command fresh k from) × (a .n ≤ self .n + 1) ⌝ }
     {
@@ -84,7 +84,7 @@ impl Orders {
 }
 
 // The commands that fill the registers from where each comes from; `fresh` stands for the place of the byte.
-pub fn commands_of(fresh: u8, regs: Regs) -> Orders
+fn commands_of(fresh: u8, regs: Regs) -> Orders
     requires { ⌜ regs .n ≤ 64 ⌝ }
     ensures { λ a. ⌜ (a .n ≤ 64) × (orders-of a ≡ commands fresh 0 (map (λ k. k .1) (keys-of regs))) ⌝ }
 {
@@ -99,7 +99,7 @@ pub fn commands_of(fresh: u8, regs: Regs) -> Orders
     c
 }
 
-pub fn same_order(a: Order, b: Order) -> bool
+fn same_order(a: Order, b: Order) -> bool
     ensures { λ r. ⌜ r ≡ same-cmd (order-of a) (order-of b) ⌝ }
 {
     if a.set {
@@ -117,7 +117,7 @@ pub fn same_order(a: Order, b: Order) -> bool
     false
 }
 
-pub fn same_orders(a: Orders, b: Orders) -> bool
+fn same_orders(a: Orders, b: Orders) -> bool
     requires { ⌜ (a .n ≤ 64) × (b .n ≤ 64) ⌝ }
     ensures { λ r. ⌜ r ≡ same-list same-cmd (orders-of a) (orders-of b) ⌝ }
 {
@@ -140,7 +140,7 @@ pub fn same_orders(a: Orders, b: Orders) -> bool
 
 // ---- bytes, written where there is room
 
-pub fn emit(out: &mut [u8], at: usize, v: u8) -> usize
+fn emit(out: &mut [u8], at: usize, v: u8) -> usize
     requires { ⌜ at < 8000000 ⌝ }
     ensures { λ r. ⌜ Wrote (now (out .entry)) (now (out .exit)) at (v ∷ []) r ⌝ }
 {
@@ -150,7 +150,7 @@ pub fn emit(out: &mut [u8], at: usize, v: u8) -> usize
     at + 1
 }
 
-pub fn emit_order(out: &mut [u8], at: usize, o: Order) -> usize
+fn emit_order(out: &mut [u8], at: usize, o: Order) -> usize
     requires { ⌜ at + 3 ≤ 8000000 ⌝ }
     ensures { λ r. ⌜ Wrote (now (out .entry)) (now (out .exit)) at (cmd-bytes (order-of o)) r × (r ≤ at + 3) ⌝ }
 {
@@ -163,7 +163,7 @@ pub fn emit_order(out: &mut [u8], at: usize, o: Order) -> usize
     emit(out, q, o.from)
 }
 
-pub fn emit_orders(out: &mut [u8], at: usize, c: Orders) -> usize
+fn emit_orders(out: &mut [u8], at: usize, c: Orders) -> usize
     requires { ⌜ (at + 192 ≤ 8000000) × (c .n ≤ 64) ⌝ }
     ensures { λ r. ⌜ Wrote (now (out .entry)) (now (out .exit)) at (each cmd-bytes (orders-of c)) r × (r ≤ at + 192) ⌝ }
 {
@@ -186,7 +186,7 @@ pub struct Deed {
     pub orders: Orders,
 }
 
-pub fn emit_row(out: &mut [u8], at: usize, lo: u8, hi: u8, d: Deed) -> usize
+fn emit_row(out: &mut [u8], at: usize, lo: u8, hi: u8, d: Deed) -> usize
     requires { ⌜ (at + 196 ≤ 8000000) × (d .orders .n ≤ 64) ⌝ }
     ensures { λ r. ⌜ Wrote (now (out .entry)) (now (out .exit)) at (row-bytes (row-of lo hi d)) r × (r ≤ at + 196) ⌝ }
 {
@@ -198,7 +198,7 @@ pub fn emit_row(out: &mut [u8], at: usize, lo: u8, hi: u8, d: Deed) -> usize
     emit_orders(out, s, c)
 }
 
-pub fn same_deed(a: Deed, b: Deed) -> bool
+fn same_deed(a: Deed, b: Deed) -> bool
     requires { ⌜ (a .orders .n ≤ 64) × (b .orders .n ≤ 64) ⌝ }
     ensures { λ r. ⌜ r ≡ alike-deeds a b ⌝ }
 {
@@ -211,7 +211,7 @@ pub fn same_deed(a: Deed, b: Deed) -> bool
 }
 
 // What byte b does in the situation s, which has `regs` registers.
-pub fn byte_deed(
+fn byte_deed(
     file: &[u8],
     offs: &[usize],
     work: &[u8],
@@ -244,7 +244,7 @@ pub struct Open {
 }
 
 // Byte b joins the open row, or closes it and opens the next.
-pub fn row_step(
+fn row_step(
     file: &[u8],
     offs: &[usize],
     work: &[u8],
@@ -278,7 +278,7 @@ pub fn row_step(
 }
 
 // All rows of the situation s.
-pub fn emit_rows(
+fn emit_rows(
     file: &[u8],
     offs: &[usize],
     work: &[u8],
@@ -316,7 +316,7 @@ pub struct Ending {
     pub had: [u8; 8],
 }
 
-pub fn ending_of(file: &[u8], offs: &[usize], s: Found) -> Ending
+fn ending_of(file: &[u8], offs: &[usize], s: Found) -> Ending
     requires { ⌜ Formed (now file) (now offs) ⌝ }
     requires { ⌜ Fit (length (now offs)) s ⌝ }
     ensures { λ a. ⌜ Ends (net-at (now (file .entry)) (now (offs .entry))) (threads-of s) a ⌝ }
@@ -336,7 +336,7 @@ pub fn ending_of(file: &[u8], offs: &[usize], s: Found) -> Ending
     Ending { answer: 255, had }
 }
 
-pub fn emit_fields(out: &mut [u8], at: usize, e: Ending) -> usize
+fn emit_fields(out: &mut [u8], at: usize, e: Ending) -> usize
     requires { ⌜ at + 8 ≤ 8000000 ⌝ }
     ensures { λ r. ⌜ Wrote (now (out .entry)) (now (out .exit)) at (e .had) r × (r ≤ at + 8) ⌝ }
 {
@@ -350,7 +350,7 @@ pub fn emit_fields(out: &mut [u8], at: usize, e: Ending) -> usize
 }
 
 // Situation i: its SITUATION item and its rows.
-pub fn emit_sit(
+fn emit_sit(
     file: &[u8],
     offs: &[usize],
     work: &[u8],
@@ -373,7 +373,7 @@ pub fn emit_sit(
     emit_rows(file, offs, work, out, s, regs, count, r)
 }
 
-pub fn emit_sits(
+fn emit_sits(
     file: &[u8],
     offs: &[usize],
     work: &[u8],
@@ -398,7 +398,7 @@ pub fn emit_sits(
 // ---- the table
 
 // The SETs of the start.
-pub fn emit_start(out: &mut [u8], at: usize, n: u8) -> usize
+fn emit_start(out: &mut [u8], at: usize, n: u8) -> usize
     requires { ⌜ (at ≤ 5) × (n ≤ 64) ⌝ }
     ensures { λ r. ⌜ Wrote (now (out .entry)) (now (out .exit)) at (each cmd-bytes (map put (span 0 n))) r × (r ≤ 200) ⌝ }
 {
@@ -412,7 +412,7 @@ pub fn emit_start(out: &mut [u8], at: usize, n: u8) -> usize
     p
 }
 
-pub fn emit_head(out: &mut [u8], tags: u8, registers: u8, situations: u8) -> usize
+fn emit_head(out: &mut [u8], tags: u8, registers: u8, situations: u8) -> usize
     ensures { λ r. ⌜ Wrote (now (out .entry)) (now (out .exit)) 0 (0x21 ∷ 1 ∷ tags ∷ registers ∷ situations ∷ []) r × (r ≡ 5) ⌝ }
 {
     let a = emit(out, 0, 0x21);
@@ -423,7 +423,7 @@ pub fn emit_head(out: &mut [u8], tags: u8, registers: u8, situations: u8) -> usi
 }
 
 // The largest need of any situation.
-pub fn most_of(work: &[u8], count: usize) -> u8
+fn most_of(work: &[u8], count: usize) -> u8
     requires { ⌜ 578 * count ≤ length (now work) ⌝ }
     requires { ⌜ Needs (now work) count ⌝ }
     ensures { λ r. ⌜ r ≡ most (slots (now (work .entry)) 0 count) ⌝ }
@@ -441,7 +441,7 @@ pub fn most_of(work: &[u8], count: usize) -> u8
 }
 
 // The whole table from the situations in the work memory, as far as the output has room, and its length.
-pub fn emit_table(
+fn emit_table(
     file: &[u8],
     offs: &[usize],
     work: &[u8],
@@ -483,7 +483,7 @@ fn refuse(code: u8) -> Built
 }
 
 // The table of a legal file, whose records stand at `offs`. The table is first written to nowhere, for its length.
-pub fn make(file: &[u8], offs: &[usize], tags: u8, work: &mut [u8], out: &mut [u8]) -> Built
+fn make(file: &[u8], offs: &[usize], tags: u8, work: &mut [u8], out: &mut [u8]) -> Built
     requires { ⌜ Formed (now file) (now offs) × (0 < length (now offs)) ⌝ }
     requires { ⌜ 65536 ≤ length (now work) ⌝ }
     ensures size { λ _. ⌜ length (now (work .exit)) ≡ length (now (work .entry)) ⌝ }
@@ -510,7 +510,7 @@ pub fn make(file: &[u8], offs: &[usize], tags: u8, work: &mut [u8], out: &mut [u
 }
 
 // All but the clearing of the work memory.
-pub fn attempt(file: &[u8], work: &mut [u8], out: &mut [u8]) -> Built
+fn attempt(file: &[u8], work: &mut [u8], out: &mut [u8]) -> Built
     ensures size { λ _. ⌜ length (now (work .exit)) ≡ length (now (work .entry)) ⌝ }
     ensures { λ a. ⌜ Attempts (now (file .entry)) (length (now (work .entry))) (now (out .entry)) (now (out .exit)) a ⌝ }
 {
@@ -526,7 +526,7 @@ pub fn attempt(file: &[u8], work: &mut [u8], out: &mut [u8]) -> Built
     make(file, &at[0..n], p.tags, work, out)
 }
 
-pub fn clear(work: &mut [u8])
+fn clear(work: &mut [u8])
     ensures { λ _. ⌜ now (work .exit) ≡ replicate (length (now (work .entry))) 0 ⌝ }
 {
     let mut i: usize = 0;

@@ -1,32 +1,29 @@
 -- What a byte does at a record, and over a list. Assumes nothing.
 use mathlib.Core.Path.{_≡_, refl, sym, ap, _∙_, subst}
-use mathlib.Core.Logic.{_⊎_, inl, inr}
 use mathlib.Core.Bool.{Bool, true, false, _&&_, cond}
 use mathlib.Core.List.{List, [], _∷_, _++_, map, foldl, append-nil}
 use Prim.Native.Nat.{ℕ, zero, suc, _+_, _-_, _/_, _%_, _^_, _≤_, _<_}
 use native.Mathlib.Omega.{arith}
 use native.Mathlib.Numerals.{add-one}
 use lib.Dec.{eqb, leb}
-use lib.ListN.{length, getD, take, drop, set, length-map}
+use lib.ListN.{length, getD, take, drop}
 use lib.Seq.{getD-take, getD-drop, take-suc}
 use borrow.Author.Tests.{eq-eqb, ne-eqb, le-leb, lt-leb}
 use Rattle.net.specs.Rec.{Rec, range, mask, fork, tag, end, Net, rec, bit}
 use Rattle.paths.specs.Ways.{Move, eat}
 use Rattle.ground.specs.Lists.{each}
 use Rattle.paths.specs.Search.{Thread}
-use Rattle.paths.specs.Situation.{bite, follow, on-byte, close}
-use Rattle.paths.specs.Registers.{Tags, tagged, standing, step}
+use Rattle.paths.specs.Situation.{bite, on-byte}
+use Rattle.paths.specs.Registers.{Tags, tagged, step}
 use Rattle.paths.specs.Marks.{Marked, marking, marked-close}
 use Rattle.paths.proofs.Marking.{marked-right}
 use Rattle.paths.proofs.Heart.{each-append}
 use Rattle.net.specs.Items.{rec-at, net-at}
 use Rattle.net.proofs.Inside.{net-length}
 use Rattle.explore.specs.Items.{Inside, Formed, lands}
-use Rattle.explore.specs.States.{Below, Fit, thread-of, threads-of, Ready, Means}
+use Rattle.explore.specs.States.{Below, Fit, thread-of, threads-of, Means}
 use Rattle.explore.specs.declared.Entry.{Entry}
 use Rattle.explore.specs.declared.Found.{Found}
-use Rattle.net.proofs.Reading.{at-range, at-mask}
-use Rattle.net.proofs.Inside.{rec-net}
 use Rattle.explore.proofs.Reading.{net-inside}
 use Rattle.explore.proofs.Bits.{map-append}
 

@@ -1,17 +1,15 @@
 -- Marks in an array, and lists of threads in an array. Assumes nothing.
 use mathlib.Core.Path.{_≡_, refl, sym, ap, _∙_}
-use mathlib.Core.Logic.{_⊎_, inl, inr}
 use mathlib.Core.Bool.{Bool, true, false, _||_, cond}
 use mathlib.Core.List.{List, [], _∷_, _++_, map}
 use Prim.Native.Nat.{ℕ, zero, suc, _+_, _≤_, _<_}
 use native.Mathlib.Numerals.{add-one}
 use native.Mathlib.Omega.{arith}
-use lib.Dec.{eqb, eqb→eq, eqb-refl}
-use lib.ListN.{length, getD, take, set, replicate, length-map}
-use lib.Seq.{take-suc-set}
-use borrow.Author.Tests.{eq-eqb, ne-eqb, eqb-true, eqb-false}
-use Rattle.paths.specs.Search.{has, Thread}
-use Rattle.paths.proofs.Member.{Bool-cases, T-of, of-T}
+use lib.Dec.{eqb, eqb-refl}
+use lib.ListN.{length, getD, set, replicate, length-map}
+use borrow.Author.Tests.{ne-eqb}
+use Rattle.paths.specs.Search.{has}
+use Rattle.paths.proofs.Member.{of-T}
 use Rattle.explore.specs.States.{ones}
 
 pub ones-le : (l : List ℕ) → ones l ≤ length l

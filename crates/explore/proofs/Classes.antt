@@ -1,15 +1,14 @@
 -- A byte that every record treats as the byte before it leads nowhere new. Assumes nothing.
-use mathlib.Core.Path.{_≡_, refl, sym, ap, _∙_, subst}
+use mathlib.Core.Path.{_≡_, refl, sym, ap, _∙_}
 use mathlib.Core.Logic.{_⊎_, inl, inr}
-use mathlib.Core.Bool.{Bool, true, false, _||_, cond}
+use mathlib.Core.Bool.{Bool, true, false, _||_}
 use mathlib.Core.List.{List, [], _∷_, _++_, map}
-use Prim.Native.Nat.{ℕ, zero, suc, _+_, _-_, _≤_, _<_}
+use Prim.Native.Nat.{ℕ, _+_, _-_, _<_}
 use native.Mathlib.Omega.{arith}
 use lib.Dec.{eqb}
 use lib.ListN.{length}
 use borrow.Author.Tests.{eqb-true, eqb-false}
-use Rattle.net.specs.Rec.{Rec, Net, rec}
-use Rattle.paths.specs.Ways.{Move, eat}
+use Rattle.net.specs.Rec.{Net, rec}
 use Rattle.paths.specs.Search.{Thread}
 use Rattle.ground.specs.Lists.{each}
 use Rattle.paths.specs.Situation.{bite, follow, on-byte, close}
@@ -19,7 +18,7 @@ use Rattle.paths.specs.Numbering.{among, put, once}
 use Rattle.paths.proofs.Member.{Bool-cases}
 use Rattle.paths.proofs.Builder.{situation-test}
 use Rattle.net.specs.Items.{net-at}
-use Rattle.explore.specs.Items.{Inside, Formed, lands}
+use Rattle.explore.specs.Items.{Formed, lands}
 use Rattle.explore.specs.States.{Below}
 use Rattle.paths.specs.Limits.{bytes}
 use Rattle.paths.specs.Limits.{Sit}

@@ -5,10 +5,10 @@ use mathlib.Core.Bool.{Bool, true, false, _||_}
 use mathlib.Core.List.{List, [], _∷_, _++_, append-nil, List·Memᴰ, List·Memᴰ·head, List·Memᴰ·tail}
 use Prim.Native.Nat.{ℕ, zero, suc, _+_, _-_, _≤_, _<_}
 use native.Mathlib.Omega.{arith}
-use lib.ListN.{length, getD, drop, take, length-append, drop-of-length-le}
+use lib.ListN.{length, getD, take, length-append, drop-of-length-le}
 use Rattle.net.specs.Rec.{Net}
 use Rattle.ground.specs.Lists.{each}
-use Rattle.paths.specs.Registers.{registers, next, situation}
+use Rattle.paths.specs.Registers.{next, situation}
 use Rattle.paths.specs.Equal.{same-situation}
 use Rattle.paths.specs.Numbering.{among, once, nexts, numbered, explored}
 use Rattle.paths.specs.Limits.{Sit, bytes, all, first}

@@ -1,33 +1,33 @@
 -- The exploration over the work memory. Assumes nothing.
 use mathlib.Core.Path.{_≡_, refl, sym, ap, _∙_, subst}
 use mathlib.Core.Logic.{_⊎_, inl, inr}
-use mathlib.Core.Bool.{Bool, true, false, _||_, _&&_, cond}
+use mathlib.Core.Bool.{Bool, true, false}
 use mathlib.Core.List.{List, [], _∷_, _++_, map, foldl, append-nil}
 use Prim.Native.Nat.{ℕ, zero, suc, _+_, _*_, _-_, _≤_, _<_}
 use native.Mathlib.Omega.{arith}
 use native.Mathlib.Numerals.{add-one}
 use lib.Dec.{eqb}
-use lib.ListN.{length, getD, take, drop, set, length-append}
+use lib.ListN.{length, getD, take, length-append}
 use lib.Seq.{ext-getD, drop-cons}
 use borrow.Author.Tests.{eqb-true, eqb-false}
 use Rattle.net.specs.Rec.{Net}
-use Rattle.paths.specs.Search.{Thread, choose}
+use Rattle.paths.specs.Search.{choose}
 use Rattle.ground.specs.Lists.{each}
-use Rattle.paths.specs.Registers.{Tags, registers, next, situation}
+use Rattle.paths.specs.Registers.{registers, next}
 use Rattle.paths.specs.Equal.{same-situation}
 use Rattle.paths.specs.Numbering.{among, put, once, nexts, explored}
 use Rattle.paths.proofs.Member.{Bool-cases}
-use Rattle.explore.specs.States.{thread-of, threads-of, Below, Fit}
-use Rattle.explore.specs.Keys.{Is, Stepped, Begun}
-use Rattle.explore.specs.Slots.{row, thread-at, threads-at, slot, slots, Stored, Placed}
+use Rattle.explore.specs.States.{threads-of, Below, Fit}
+use Rattle.explore.specs.Keys.{Stepped, Begun}
+use Rattle.explore.specs.Slots.{threads-at, slot, slots, Stored, Placed}
 use Rattle.paths.specs.Limits.{bytes}
-use Rattle.paths.specs.Limits.{Sit, Too-many-registers, Too-many-situations, first, here, partly, Stops, at-start, at-byte}
+use Rattle.paths.specs.Limits.{Sit, Too-many-registers, Too-many-situations, first, here, partly, at-start, at-byte}
 use Rattle.explore.specs.Explore.{Holds, Kept, Tries, Expands, Explores}
 use Rattle.explore.specs.declared.Found.{Found}
 use Rattle.explore.specs.declared.Numbered.{Numbered}
 use Rattle.explore.specs.declared.Tried.{Tried}
 use Rattle.explore.proofs.Bits.{map-append}
-use Rattle.explore.proofs.Memory.{thread-at-same, threads-at-length, threads-at-at}
+use Rattle.explore.proofs.Memory.{thread-at-same}
 
 put-known : (found : List Sit) (s : Sit) → among same-situation s found ≡ true → put same-situation found s ≡ found
 put-known found s e = rw e

@@ -1,26 +1,24 @@
 -- The ways through `visit`. Assumes nothing.
 use mathlib.Core.Path.{_≡_, refl, sym, ap, _∙_, subst}
 use mathlib.Core.Logic.{_⊎_, inl, inr}
-use mathlib.Core.Bool.{Bool, true, false, cond}
-use mathlib.Core.List.{List, [], _∷_, _++_, map, foldl}
-use mathlib.Core.Option.{Option, none, some}
-use Prim.Native.Nat.{ℕ, zero, suc, _+_, _-_, _≤_, _<_}
+use mathlib.Core.Bool.{true, false}
+use mathlib.Core.List.{List, [], _∷_, _++_, foldl}
+use mathlib.Core.Option.{some}
+use Prim.Native.Nat.{ℕ, zero, suc, _+_, _-_, _<_}
 use native.Mathlib.Omega.{arith}
-use lib.Dec.{eqb, eqb→eq}
-use lib.ListN.{length, getD, take, set}
-use borrow.Author.Tests.{eq-eqb, ne-eqb, eqb-true, eqb-false}
+use lib.Dec.{eqb}
+use lib.ListN.{length, set}
+use borrow.Author.Tests.{ne-eqb, eqb-true, eqb-false}
 use Rattle.net.specs.Rec.{Rec, range, mask, fork, tag, end, Net, rec}
-use Rattle.paths.specs.Ways.{Turn, first, second, mark, Move, eat, turn}
-use Rattle.paths.specs.Search.{choose, has, Thread}
-use Rattle.paths.specs.Situation.{quiet, follow, on-quiet}
+use Rattle.paths.specs.Search.{has, Thread}
+use Rattle.paths.specs.Situation.{quiet, on-quiet}
 use Rattle.paths.specs.Registers.{Tags, tagged, stands}
 use Rattle.paths.specs.Marks.{Marked, marked-with, marking}
 use Rattle.paths.proofs.Member.{Bool-cases}
 use Rattle.explore.specs.Onward.{onward-of}
-use Rattle.explore.specs.States.{Below, Fit, opt, tags-of, thread-of, threads-of, marked, count-of, Marked-by, Ready, Means, Put}
+use Rattle.explore.specs.States.{Below, opt, tags-of, thread-of, threads-of, marked, count-of, Marked-by, Ready, Means, Put}
 use Rattle.explore.specs.declared.Entry.{Entry}
 use Rattle.explore.specs.declared.Found.{Found}
-use Rattle.explore.specs.declared.Onward.{Onward}
 use Rattle.explore.specs.declared.Onward.the-variants.{Stay, Both, Store}
 use Rattle.net.specs.Items.{net-at}
 use Rattle.explore.specs.Items.{Formed}

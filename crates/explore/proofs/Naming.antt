@@ -4,27 +4,25 @@ use mathlib.Core.Logic.{_⊎_, inl, inr}
 use mathlib.Core.Bool.{Bool, true, false, _&&_, cond}
 use mathlib.Core.List.{List, [], _∷_, _++_, map, foldl, append-nil, append-assoc}
 use mathlib.Core.Option.{Option, none, some}
-use Prim.Native.Nat.{ℕ, zero, suc, _+_, _-_, _≤_, _<_}
+use Prim.Native.Nat.{ℕ, suc, _+_, _-_, _≤_, _<_}
 use native.Mathlib.Omega.{arith}
 use native.Mathlib.Numerals.{add-one}
 use lib.Dec.{eqb}
 use lib.ListN.{length, getD, take, drop, set, replicate, length-map, length-append, drop-of-length-le}
 use lib.Seq.{take-suc, drop-cons, getD-take, length-take-le, take-suc-set, set-at}
 use borrow.Author.Tests.{eq-eqb, ne-eqb}
-use Rattle.ground.specs.Lists.{each}
 use Rattle.paths.specs.Search.{Thread}
 use Rattle.net.specs.Rec.{Net}
-use Rattle.paths.specs.Marks.{Marked, marking, marked-close}
+use Rattle.paths.specs.Marks.{marking, marked-close}
 use Rattle.paths.proofs.Marking.{marked-right}
 use Rattle.paths.proofs.Next.{as-many-registers}
 use Rattle.paths.specs.Registers.{no-tags, tagged, begin, after, situation, step, next, origins, Tags, Key, is, holds, held-by, index, known, note, registers, renamed, rename, number}
 use Rattle.paths.proofs.Member.{Bool-cases}
 use Rattle.paths.proofs.Heart.{each-append}
 use Rattle.explore.specs.States.{opt, tags-of, thread-of, threads-of, Below, Fit, Means}
-use Rattle.explore.specs.Keys.{key-of, keys-of, Gathers, names, Numbers, Is, Stepped, Begun}
+use Rattle.explore.specs.Keys.{key-of, keys-of, Gathers, names, Numbers, Stepped, Begun}
 use Rattle.explore.specs.declared.Entry.{Entry}
 use Rattle.explore.specs.declared.Found.{Found}
-use Rattle.explore.specs.declared.Origin.{Origin}
 use Rattle.explore.specs.declared.Regs.{Regs}
 use Rattle.explore.specs.declared.Gathered.{Gathered}
 use Rattle.explore.specs.declared.Numbered.{Numbered}

@@ -1,20 +1,18 @@
 -- The record at an offset, by its kind. Assumes nothing.
-use mathlib.Core.Path.{_≡_, refl, sym, ap, _∙_}
+use mathlib.Core.Path.{_≡_, refl}
 use mathlib.Core.Bool.{Bool, true, false, cond}
-use mathlib.Core.List.{List, [], _∷_, _++_, map}
-use Prim.Native.Nat.{ℕ, zero, suc, _+_, _≤_, _<_}
+use mathlib.Core.List.{List}
+use Prim.Native.Nat.{ℕ, _+_, _≤_, _<_}
 use native.Mathlib.Omega.{arith}
 use lib.Dec.{eqb}
-use lib.ListN.{length, getD, take, drop}
-use borrow.Author.Tests.{eq-eqb, ne-eqb}
-use Rattle.net.specs.Rec.{Rec, range, mask, fork, tag, end, Net, rec}
-use Rattle.net.specs.Items.{rec-of, rec-at, net-at, size}
+use lib.ListN.{length, getD}
+use borrow.Author.Tests.{ne-eqb}
+use Rattle.net.specs.Rec.{range, mask, end, rec}
+use Rattle.net.specs.Items.{rec-at, net-at, size}
 use Rattle.explore.specs.Items.{Inside, Formed}
 use Rattle.net.proofs.Inside.{rec-net}
 use Rattle.explore.specs.Onward.{onward-of}
-use Rattle.explore.specs.declared.Onward.{Onward}
-use Rattle.explore.specs.declared.Onward.the-variants.{Stay, Both, Store}
-use Rattle.explore.proofs.Bits.{getD-map}
+use Rattle.explore.specs.declared.Onward.the-variants.{Stay}
 
 module _ (f : List ℕ) (at : ℕ) where
   pub at-stay : (getD f at 0 ≡ 19 → ⊥) → (getD f at 0 ≡ 20 → ⊥) → onward-of (rec-at f at) ≡ Stay

@@ -1,18 +1,16 @@
 -- The exploration over the work memory. Assumes nothing.
 use mathlib.Core.Path.{_≡_}
-use mathlib.Core.Bool.{Bool, true, false}
-use mathlib.Core.List.{List, [], _∷_, _++_, map}
-use Prim.Native.Nat.{ℕ, zero, suc, _+_, _*_, _≤_, _<_}
+use mathlib.Core.List.{List, map}
+use Prim.Native.Nat.{ℕ, _+_, _*_, _≤_, _<_}
 use lib.ListN.{length, getD}
 use Prim.Native.Nat.{_-_}
 use Rattle.net.specs.Rec.{Net, rec}
 use Rattle.paths.specs.Situation.{bite}
-use Rattle.paths.specs.Limits.{Sit, bytes, first, here, partly, Too-many-registers, Too-many-situations, Stops}
+use Rattle.paths.specs.Limits.{Sit, bytes, first, Too-many-registers, Too-many-situations, Stops}
 use Rattle.explore.specs.Items.{lands}
-use Rattle.paths.specs.Search.{Thread}
-use Rattle.paths.specs.Registers.{Tags, registers, next, situation}
+use Rattle.paths.specs.Registers.{registers, next}
 use Rattle.paths.specs.Equal.{same-situation}
-use Rattle.paths.specs.Numbering.{among, put, once, explored}
+use Rattle.paths.specs.Numbering.{put, once}
 use Rattle.explore.specs.States.{Below}
 use Rattle.explore.specs.Slots.{slot, slots}
 use Rattle.explore.specs.declared.Tried.{Tried}

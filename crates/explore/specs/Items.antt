@@ -1,12 +1,9 @@
 -- What is known of the records of an automaton file, read straight from its bytes at an offset. Assumes nothing.
-use mathlib.Core.Path.{_≡_}
-use mathlib.Core.Bool.{Bool, true, false, cond}
-use mathlib.Core.List.{List, [], _∷_, _++_, map}
+use mathlib.Core.List.{List, [], _∷_}
 use Prim.Native.Nat.{ℕ, _+_, _≤_, _<_}
-use lib.Dec.{eqb}
-use lib.ListN.{length, getD, take, drop}
+use lib.ListN.{length, getD}
 use Rattle.net.specs.Items.{size, rec-at}
-use Rattle.net.specs.Rec.{Rec, range, mask, fork, tag, end, Net}
+use Rattle.net.specs.Rec.{Rec, range, mask, fork, tag, end}
 use Rattle.paths.specs.Ways.{Move}
 
 -- every number in it is in range

@@ -1,7 +1,7 @@
 -- What the registers of a list mean. Assumes nothing.
 use mathlib.Core.Path.{_≡_}
-use mathlib.Core.Bool.{Bool, true, false}
-use mathlib.Core.List.{List, [], _∷_, _++_, map, foldl}
+use mathlib.Core.Bool.{true, false}
+use mathlib.Core.List.{List, [], map, foldl}
 use Prim.Native.Nat.{ℕ, _≤_, _<_}
 use lib.ListN.{length, take}
 use Rattle.paths.specs.Search.{Thread}

@@ -21,6 +21,7 @@ ghost use Rattle.explore.specs.Onward.{onward-of, closing-of};
 ghost use Rattle.explore.specs.States.{thread-of, threads-of, marked, count-of, Marked-by, Fit, Ready, Means, Put, tags-of};
 
 // From the records of an automaton file to its situations, in the lent work memory. States go by value.
+// What the public functions ask is shown by `build`: `Formed` comes from the reader of the file, `Kept` from the exploration.
 
 // One thread: the record that it stands on, and for each tag 255 or where its place comes from.
 pub struct Entry {
@@ -30,7 +31,7 @@ pub struct Entry {
 
 impl Entry {
     // The same places, on another record.
-    pub fn moved(mut self, r: u8) -> Entry
+    fn moved(mut self, r: u8) -> Entry
         ensures { λ a. ⌜ (a .on ≡ r) × (a .had ≡ self .had) ⌝ }
     {
         self.on = r;
@@ -38,7 +39,7 @@ impl Entry {
     }
 
     // The same places but for tag t.
-    pub fn tagged(mut self, t: u8, stamp: u8) -> Entry
+    fn tagged(mut self, t: u8, stamp: u8) -> Entry
         requires { ⌜ t < 8 ⌝ }
         ensures { λ a. ⌜ (a .on ≡ self .on) × (a .had ≡ set (self .had) t stamp) ⌝ }
     {
@@ -53,14 +54,14 @@ pub struct Marks {
 }
 
 impl Marks {
-    pub fn has(self, r: u8) -> bool
+    fn has(self, r: u8) -> bool
         requires { ⌜ r < 64 ⌝ }
         ensures { λ a. ⌜ a ≡ marked self r ⌝ }
     {
         self.at[r as usize] == 1
     }
 
-    pub fn with(mut self, r: u8) -> Marks
+    fn with(mut self, r: u8) -> Marks
         requires { ⌜ r < 64 ⌝ }
         ensures { λ a. ⌜ Marked-by self r a ⌝ }
     {
@@ -76,7 +77,7 @@ pub struct Found {
 }
 
 impl Found {
-    pub fn new() -> Found
+    fn new() -> Found
         ensures { λ a. ⌜ (a .n ≡ 0) × ((r : ℕ) → marked (a .marks) r ≡ false) ⌝ }
     {
         let none = [255u8; 8];
@@ -90,7 +91,7 @@ impl Found {
         }
     }
 
-    pub fn noted(mut self, r: u8) -> Found
+    fn noted(mut self, r: u8) -> Found
         requires { ⌜ r < 64 ⌝ }
         ensures { λ a. ⌜ Marked-by (self .marks) r (a .marks) × ((a .n ≡ self .n) × (a .list ≡ self .list)) ⌝ }
     {
@@ -100,7 +101,7 @@ impl Found {
         self
     }
 
-    pub fn put(mut self, e: Entry) -> Found
+    fn put(mut self, e: Entry) -> Found
         requires { ⌜ self .n < 64 ⌝ }
         ensures { λ a. ⌜ Put self e a ⌝ }
     {
@@ -118,7 +119,7 @@ pub enum Onward {
     Store(u8, u8),
 }
 
-pub fn onward_at(file: &[u8], offs: &[usize], r: u8) -> Onward
+fn onward_at(file: &[u8], offs: &[usize], r: u8) -> Onward
     requires { ⌜ Formed (now file) (now offs) ⌝ }
     requires { ⌜ r < length (now offs) ⌝ }
     ensures { λ a. ⌜ a ≡ onward-of (rec (net-at (now (file .entry)) (now (offs .entry))) r) ⌝ }
@@ -135,7 +136,7 @@ pub fn onward_at(file: &[u8], offs: &[usize], r: u8) -> Onward
 }
 
 // Depth first from e, with what has been found.
-pub fn visit(file: &[u8], offs: &[usize], stamp: u8, f: Found, e: Entry, fuel: usize) -> Found
+fn visit(file: &[u8], offs: &[usize], stamp: u8, f: Found, e: Entry, fuel: usize) -> Found
     requires { ⌜ Formed (now file) (now offs) ⌝ }
     requires { ⌜ Ready (length (now offs)) f ⌝ }
     requires { ⌜ (e .on < length (now offs)) × (stamp < 255) ⌝ }
@@ -167,6 +168,7 @@ pub enum Closing {
     With(u8),
 }
 
+// Its caller has r from a list whose records are below the count.
 pub fn end_at(file: &[u8], offs: &[usize], r: u8) -> Closing
     requires { ⌜ Formed (now file) (now offs) ⌝ }
     requires { ⌜ r < length (now offs) ⌝ }
@@ -190,7 +192,7 @@ pub fn end_at(file: &[u8], offs: &[usize], r: u8) -> Closing
 }
 
 // The record that byte b leads to from record r, or 255.
-pub fn bite_at(file: &[u8], offs: &[usize], r: u8, b: u8) -> u8
+fn bite_at(file: &[u8], offs: &[usize], r: u8, b: u8) -> u8
     requires { ⌜ Formed (now file) (now offs) ⌝ }
     requires { ⌜ r < length (now offs) ⌝ }
     ensures { λ a. ⌜ a ≡ lands (bite b (rec (net-at (now (file .entry)) (now (offs .entry))) r)) ⌝ }
@@ -219,7 +221,7 @@ pub fn bite_at(file: &[u8], offs: &[usize], r: u8, b: u8) -> u8
 }
 
 // What e leads to by byte b, after what has been found.
-pub fn consume(file: &[u8], offs: &[usize], stamp: u8, f: Found, e: Entry, b: u8) -> Found
+fn consume(file: &[u8], offs: &[usize], stamp: u8, f: Found, e: Entry, b: u8) -> Found
     requires { ⌜ Formed (now file) (now offs) ⌝ }
     requires { ⌜ Ready (length (now offs)) f ⌝ }
     requires { ⌜ (e .on < length (now offs)) × (stamp < 255) ⌝ }
@@ -233,7 +235,7 @@ pub fn consume(file: &[u8], offs: &[usize], stamp: u8, f: Found, e: Entry, b: u8
 }
 
 // All threads of s that consume b, in order, and what they lead to.
-pub fn sweep(file: &[u8], offs: &[usize], stamp: u8, s: Found, b: u8) -> Found
+fn sweep(file: &[u8], offs: &[usize], stamp: u8, s: Found, b: u8) -> Found
     requires { ⌜ Formed (now file) (now offs) ⌝ }
     requires { ⌜ Fit (length (now offs)) s × (stamp < 255) ⌝ }
     ensures { λ a. ⌜ Fit (length (now (offs .entry))) a × (threads-of a ≡ step (net-at (now (file .entry)) (now (offs .entry))) stamp b (threads-of s)) ⌝ }
@@ -268,7 +270,7 @@ pub struct Gathered {
 }
 
 impl Regs {
-    pub fn new() -> Regs
+    fn new() -> Regs
         ensures { λ a. ⌜ a .n ≡ 0 ⌝ }
     {
         let o = Origin { tag: 0, from: 0 };
@@ -277,7 +279,7 @@ impl Regs {
     }
 
     // The number of tag t's register from o, or the count.
-    pub fn find(self, t: u8, o: u8) -> usize
+    fn find(self, t: u8, o: u8) -> usize
         requires { ⌜ self .n ≤ 64 ⌝ }
         ensures { λ a. ⌜ a ≡ index (t, o) (keys-of self) ⌝ }
     {
@@ -295,7 +297,7 @@ impl Regs {
         n
     }
 
-    pub fn with(mut self, t: u8, o: u8) -> Regs
+    fn with(mut self, t: u8, o: u8) -> Regs
         requires { ⌜ self .n < 64 ⌝ }
         ensures { λ a. ⌜ (keys-of a ≡ keys-of self ++ ((t, o) ∷ [])) × (a .n ≡ self .n + 1) ⌝ }
     {
@@ -305,7 +307,7 @@ impl Regs {
         self
     }
 
-    pub fn add(self, t: u8, o: u8) -> Gathered
+    fn add(self, t: u8, o: u8) -> Gathered
         requires { ⌜ self .n ≤ 64 ⌝ }
         ensures { λ a. ⌜ Gathers (keys-of self) ((t, o) ∷ []) a ⌝ }
     {
@@ -331,7 +333,7 @@ impl Regs {
 }
 
 // The registers of one entry, after those before it.
-pub fn gather(regs: Regs, e: Entry) -> Gathered
+fn gather(regs: Regs, e: Entry) -> Gathered
     requires { ⌜ regs .n ≤ 64 ⌝ }
     ensures { λ a. ⌜ Gathers (keys-of regs) (holds 0 (tags-of (e .had))) a ⌝ }
 {
@@ -356,7 +358,7 @@ pub fn gather(regs: Regs, e: Entry) -> Gathered
 }
 
 // The registers of a list.
-pub fn registers_of(s: Found) -> Gathered
+fn registers_of(s: Found) -> Gathered
     requires { ⌜ s .n ≤ 64 ⌝ }
     ensures { λ a. ⌜ Gathers [] (held-by (threads-of s)) a ⌝ }
 {
@@ -380,7 +382,7 @@ pub fn registers_of(s: Found) -> Gathered
 }
 
 // An entry with register numbers for origins.
-pub fn name_entry(regs: Regs, e: Entry) -> Entry
+fn name_entry(regs: Regs, e: Entry) -> Entry
     requires { ⌜ regs .n ≤ 64 ⌝ }
     ensures { λ a. ⌜ thread-of a ≡ names (keys-of regs) (thread-of e) ⌝ }
 {
@@ -397,7 +399,7 @@ pub fn name_entry(regs: Regs, e: Entry) -> Entry
     d
 }
 
-pub fn name_all(regs: Regs, s: Found) -> Found
+fn name_all(regs: Regs, s: Found) -> Found
     requires { ⌜ (regs .n ≤ 64) × (s .n ≤ 64) ⌝ }
     ensures { λ a. ⌜ (a .n ≡ s .n) × (threads-of a ≡ Rattle.paths.specs.Registers.rename (λ t p. index (t, p) (keys-of regs)) (threads-of s)) ⌝ }
 {
@@ -419,7 +421,7 @@ pub struct Numbered {
 }
 
 // The list with register numbers, and where each register comes from.
-pub fn number_of(s: Found) -> Numbered
+fn number_of(s: Found) -> Numbered
     requires { ⌜ s .n ≤ 64 ⌝ }
     ensures numbers { λ a. ⌜ Numbers (threads-of s) a ⌝ }
     ensures fit { λ a. ⌜ ((N : ℕ) → Fit N s → Fit N (a .sit)) ⌝ }
@@ -450,7 +452,7 @@ pub fn next_of(file: &[u8], offs: &[usize], count: u8, s: Found, b: u8) -> Numbe
 }
 
 // The situation of the empty input.
-pub fn begin_of(file: &[u8], offs: &[usize]) -> Numbered
+fn begin_of(file: &[u8], offs: &[usize]) -> Numbered
     requires { ⌜ Formed (now file) (now offs) ⌝ }
     requires { ⌜ 0 < length (now offs) ⌝ }
     ensures { λ a. ⌜ Begun (net-at (now (file .entry)) (now (offs .entry))) (length (now (offs .entry))) a ⌝ }
@@ -463,7 +465,7 @@ pub fn begin_of(file: &[u8], offs: &[usize]) -> Numbered
 
 // ---- the work memory: slot j has the count of records, the count of registers, and nine bytes for each record
 
-pub fn put_entry(work: &mut [u8], at: usize, e: Entry)
+fn put_entry(work: &mut [u8], at: usize, e: Entry)
     requires { ⌜ at + 9 ≤ length (now work) ⌝ }
     ensures { λ _. ⌜ Put-at (now (work .entry)) (now (work .exit)) at e ⌝ }
 {
@@ -475,7 +477,7 @@ pub fn put_entry(work: &mut [u8], at: usize, e: Entry)
     }
 }
 
-pub fn store(work: &mut [u8], j: usize, s: Found, count: u8)
+fn store(work: &mut [u8], j: usize, s: Found, count: u8)
     requires { ⌜ (s .n ≤ 64) × (578 * j + 578 ≤ length (now work)) ⌝ }
     ensures { λ _. ⌜ Stored (now (work .entry)) (now (work .exit)) j (threads-of s) count ⌝ }
 {
@@ -491,7 +493,7 @@ pub fn store(work: &mut [u8], j: usize, s: Found, count: u8)
     }
 }
 
-pub fn entry_at(work: &[u8], at: usize) -> Entry
+fn entry_at(work: &[u8], at: usize) -> Entry
     requires { ⌜ at + 9 ≤ length (now work) ⌝ }
     ensures { λ a. ⌜ thread-of a ≡ thread-at (now (work .entry)) at ⌝ }
 {
@@ -504,6 +506,7 @@ pub fn entry_at(work: &[u8], at: usize) -> Entry
     Entry { on: work[at], had }
 }
 
+// Situation j, which the exploration has stored.
 pub fn load(work: &[u8], j: usize) -> Found
     requires { ⌜ (578 * j + 578 ≤ length (now work)) × (getD (now work) (578 * j) 0 ≤ 64) ⌝ }
     ensures { λ a. ⌜ (a .n ≤ 64) × (threads-of a ≡ slot (now (work .entry)) j) ⌝ }
@@ -519,7 +522,7 @@ pub fn load(work: &[u8], j: usize) -> Found
     f
 }
 
-pub fn same_entry(work: &[u8], at: usize, e: Entry) -> bool
+fn same_entry(work: &[u8], at: usize, e: Entry) -> bool
     requires { ⌜ at + 9 ≤ length (now work) ⌝ }
     ensures { λ a. ⌜ a ≡ same-thread (thread-of e) (thread-at (now (work .entry)) at) ⌝ }
 {
@@ -536,7 +539,7 @@ pub fn same_entry(work: &[u8], at: usize, e: Entry) -> bool
     true
 }
 
-pub fn same(work: &[u8], j: usize, s: Found) -> bool
+fn same(work: &[u8], j: usize, s: Found) -> bool
     requires { ⌜ (578 * j + 578 ≤ length (now work)) × (s .n ≤ 64) ⌝ }
     ensures { λ a. ⌜ a ≡ same-situation (threads-of s) (slot (now (work .entry)) j) ⌝ }
 {
@@ -581,7 +584,7 @@ pub struct Tried {
 }
 
 // What byte b leads to from s, stored if it is new.
-pub fn try_byte(
+fn try_byte(
     file: &[u8],
     offs: &[usize],
     work: &mut [u8],
@@ -635,7 +638,7 @@ pub fn fresh(file: &[u8], offs: &[usize], b: u8) -> bool
 }
 
 // What every byte leads to from situation i.
-pub fn expand(file: &[u8], offs: &[usize], work: &mut [u8], i: usize, count: usize) -> Tried
+fn expand(file: &[u8], offs: &[usize], work: &mut [u8], i: usize, count: usize) -> Tried
     requires { ⌜ Formed (now file) (now offs) ⌝ }
     requires { ⌜ Kept (length (now offs)) (now work) count × (i < count) ⌝ }
     ensures { λ a. ⌜ Expands (net-at (now (file .entry)) (now (offs .entry))) (length (now (offs .entry))) (now (work .entry)) (now (work .exit)) count (slot (now (work .entry)) i) a ⌝ }

@@ -1,16 +1,11 @@
 -- `build::attempt` meets its contract. Assumes nothing.
-use mathlib.Core.Path.{_≡_, refl, sym, ap, _∙_}
+use mathlib.Core.Path.{_≡_, refl}
 use Prim.Native.Nat.{_-_}
 use native.Mathlib.Omega.{arith}
 use Rattle.build.proofs.Verdict.{small-room, refused-net, taken-net, laid-room, laid-ready, laid-net}
 use borrow.Author.Needs.{needs}
 use Rattle.build.proofs.attempt.Statement.{statement}
 use Rattle.build.proofs.attempt.Tie as tie
-use Rattle.build.proofs.attempt.Reads as reads
-use Rattle.build.proofs.attempt.Lts as lts
-use Rattle.build.proofs.make.Reads as make-reads
-use Rattle.build.proofs.refuse.Reads as refuse-reads
-use Rattle.net.proofs.places.Reads as places-reads
 
 refuse-requires : tie.Need-refuse-requires
 refuse-requires c κs = search needs

@@ -1,13 +1,9 @@
 -- `build::build` meets its contract. Assumes nothing.
-use mathlib.Core.Path.{_≡_, refl, sym, ap, _∙_}
+use mathlib.Core.Path.{ap, _∙_}
 use lib.ListN.{replicate}
 use borrow.Author.Needs.{needs}
 use Rattle.build.proofs.build.Statement.{statement}
 use Rattle.build.proofs.build.Tie as tie
-use Rattle.build.proofs.build.Reads as reads
-use Rattle.build.proofs.build.Lts as lts
-use Rattle.build.proofs.attempt.Reads as attempt-reads
-use Rattle.build.proofs.clear.Reads as clear-reads
 
 attempt-requires : tie.Need-attempt-requires
 attempt-requires c κs = search needs

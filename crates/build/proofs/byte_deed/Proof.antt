@@ -1,15 +1,9 @@
 -- `build::byte_deed` meets its contract. Assumes nothing.
-use mathlib.Core.Path.{_≡_, refl, sym, ap, _∙_}
 use native.Mathlib.Omega.{arith}
 use Rattle.build.proofs.Deeds.{not-over, does}
 use borrow.Author.Needs.{needs}
 use Rattle.build.proofs.byte_deed.Statement.{statement}
 use Rattle.build.proofs.byte_deed.Tie as tie
-use Rattle.build.proofs.byte_deed.Reads as reads
-use Rattle.build.proofs.byte_deed.Lts as lts
-use Rattle.build.proofs.commands_of.Reads as commands-of-reads
-use Rattle.explore.proofs.next_of.Reads as next-of-reads
-use Rattle.explore.proofs.place.Reads as place-reads
 
 next-of-requires : tie.Need-next-of-requires
 next-of-requires c κs = (c .before .before .before .pre .0, (c .before .before .before .pre .1 .1 .0 .0, (c .before .before .before .pre .1 .1 .0 .1 .0, omega (arith, c .before .before .before .pre .1 .1 .0 .1 .1))))

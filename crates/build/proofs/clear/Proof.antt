@@ -1,14 +1,11 @@
 -- `build::clear` meets its contract. Assumes nothing.
-use mathlib.Core.Path.{_≡_, refl, sym, ap, _∙_}
-use Prim.Native.Nat.{_≤_, _+_, _-_}
+use mathlib.Core.Path.{_≡_, refl}
+use Prim.Native.Nat.{_≤_, _-_}
 use native.Mathlib.Omega.{arith}
-use borrow.Author.Needs.{needs}
 use lib.ListN.{length, take, replicate, length-set}
 use Rattle.build.proofs.Verdict.{cleared-more, cleared-all}
 use Rattle.build.proofs.clear.Statement.{statement}
 use Rattle.build.proofs.clear.Tie as tie
-use Rattle.build.proofs.clear.Reads as reads
-use Rattle.build.proofs.clear.Lts as lts
 
 abbrev Inv-loop : tie.InvT-loop
 Inv-loop work₀ i₀ work i = (i ≤ length work) × ((length work ≡ length work₀) × (take i work ≡ replicate i 0))

@@ -1,6 +1,6 @@
 -- `build::commands_of` meets its contract. Assumes nothing.
-use mathlib.Core.Path.{_≡_, refl, sym, ap, _∙_}
-use mathlib.Core.List.{List, [], _∷_, _++_, map}
+use mathlib.Core.Path.{_≡_}
+use mathlib.Core.List.{_++_, map}
 use Prim.Native.Nat.{_≤_, _+_, _-_}
 use native.Mathlib.Omega.{arith}
 use borrow.Author.Needs.{needs}
@@ -12,10 +12,6 @@ use Rattle.build.specs.Writing.{orders-of}
 use Rattle.build.proofs.Commands.{commands-start, commands-more, commands-done}
 use Rattle.build.proofs.commands_of.Statement.{statement}
 use Rattle.build.proofs.commands_of.Tie as tie
-use Rattle.build.proofs.commands_of.Reads as reads
-use Rattle.build.proofs.commands_of.Lts as lts
-use Rattle.build.proofs.Orders.fill.Reads as fill-reads
-use Rattle.build.proofs.Orders.new.Reads as new-reads
 
 abbrev Inv-loop : tie.InvT-loop
 Inv-loop fresh regs n c₀ k₀ c k = (k ≤ n) × ((c .n ≤ k) × (orders-of c ++ commands fresh k (drop k (map (λ k. k .1) (keys-of regs))) ≡ commands fresh 0 (map (λ k. k .1) (keys-of regs))))

@@ -1,14 +1,11 @@
 -- `build::emit` meets its contract. Assumes nothing.
-use mathlib.Core.Path.{_≡_, refl, sym, ap, _∙_}
+use mathlib.Core.Path.{refl}
 use mathlib.Core.Logic.{⊎-elim}
 use lib.ListN.{length-set}
-use native.Mathlib.Omega.{arith}
 use Rattle.build.proofs.Writing.{wrote-one, wrote-past}
 use borrow.Author.Needs.{needs}
 use Rattle.build.proofs.emit.Statement.{statement}
 use Rattle.build.proofs.emit.Tie as tie
-use Rattle.build.proofs.emit.Reads as reads
-use Rattle.build.proofs.emit.Lts as lts
 
 slice-write-out : tie.Need-slice-write-out
 slice-write-out c = search needs

@@ -1,6 +1,6 @@
 -- `build::emit_fields` meets its contract. Assumes nothing.
-use mathlib.Core.Path.{_≡_, refl, sym, ap, _∙_}
-use Prim.Native.Nat.{_≤_, _+_, _*_, _-_}
+use mathlib.Core.Path.{_≡_}
+use Prim.Native.Nat.{_≤_, _+_, _-_}
 use native.Mathlib.Omega.{arith}
 use borrow.Author.Needs.{needs}
 use lib.ListN.{length, drop, drop-of-length-le}
@@ -8,9 +8,6 @@ use Rattle.build.proofs.Writing.{Left, left-all, left-on, left-none, le
 use Rattle.build.proofs.Tables.{byte-here}
 use Rattle.build.proofs.emit_fields.Statement.{statement}
 use Rattle.build.proofs.emit_fields.Tie as tie
-use Rattle.build.proofs.emit_fields.Reads as reads
-use Rattle.build.proofs.emit_fields.Lts as lts
-use Rattle.build.proofs.emit.Reads as emit-reads
 
 abbrev Inv-loop : tie.InvT-loop
 Inv-loop out₀ at e p₀ t₀ out p t = (t ≤ 8) × ((p ≤ at + t) × Left out₀ at (e .had) out p (drop t (e .had)))

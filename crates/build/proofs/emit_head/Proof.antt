@@ -4,9 +4,6 @@ use Rattle.build.proofs.Writing.{wrote-then}
 use borrow.Author.Needs.{needs}
 use Rattle.build.proofs.emit_head.Statement.{statement}
 use Rattle.build.proofs.emit_head.Tie as tie
-use Rattle.build.proofs.emit_head.Reads as reads
-use Rattle.build.proofs.emit_head.Lts as lts
-use Rattle.build.proofs.emit.Reads as emit-reads
 
 emit-requires : tie.Need-emit-requires
 emit-requires c κs = search needs

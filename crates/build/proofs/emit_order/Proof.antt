@@ -1,14 +1,10 @@
 -- `build::emit_order` meets its contract. Assumes nothing.
-use mathlib.Core.Path.{_≡_, refl, sym, ap, _∙_}
 use native.Mathlib.Omega.{arith}
 use Rattle.build.proofs.Commands.{is-set, is-move}
 use Rattle.build.proofs.Writing.{wrote-then}
 use borrow.Author.Needs.{needs}
 use Rattle.build.proofs.emit_order.Statement.{statement}
 use Rattle.build.proofs.emit_order.Tie as tie
-use Rattle.build.proofs.emit_order.Reads as reads
-use Rattle.build.proofs.emit_order.Lts as lts
-use Rattle.build.proofs.emit.Reads as emit-reads
 
 emit-requires : tie.Need-emit-requires
 emit-requires c κs = search needs

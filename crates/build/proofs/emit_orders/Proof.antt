@@ -1,8 +1,7 @@
 -- `build::emit_orders` meets its contract. Assumes nothing.
-use mathlib.Core.Path.{_≡_, refl, sym, ap, _∙_}
+use mathlib.Core.Path.{ap}
 use Prim.Native.Nat.{_≤_, _+_, _*_, _-_}
 use native.Mathlib.Omega.{arith}
-use borrow.Author.Needs.{needs}
 use lib.ListN.{drop}
 use Rattle.ground.specs.Lists.{each}
 use Rattle.card.specs.Table.{cmd-bytes}
@@ -12,9 +11,6 @@ use Rattle.build.proofs.Commands.{order-here, orders-done}
 use Rattle.build.proofs.Writing.{Left, left-all, left-on, left-none, left-size}
 use Rattle.build.proofs.emit_orders.Statement.{statement}
 use Rattle.build.proofs.emit_orders.Tie as tie
-use Rattle.build.proofs.emit_orders.Reads as reads
-use Rattle.build.proofs.emit_orders.Lts as lts
-use Rattle.build.proofs.emit_order.Reads as emit-order-reads
 
 abbrev Inv-loop : tie.InvT-loop
 Inv-loop out₀ at c n p₀ i₀ out p i = (i ≤ n) × ((p ≤ at + 3 * i) × Left out₀ at (each cmd-bytes (orders-of c)) out p (each cmd-bytes (drop i (orders-of c))))

@@ -4,10 +4,6 @@ use Rattle.build.proofs.Writing.{wrote-then}
 use borrow.Author.Needs.{needs}
 use Rattle.build.proofs.emit_row.Statement.{statement}
 use Rattle.build.proofs.emit_row.Tie as tie
-use Rattle.build.proofs.emit_row.Reads as reads
-use Rattle.build.proofs.emit_row.Lts as lts
-use Rattle.build.proofs.emit.Reads as emit-reads
-use Rattle.build.proofs.emit_orders.Reads as emit-orders-reads
 
 emit-requires : tie.Need-emit-requires
 emit-requires c κs = search needs

@@ -1,8 +1,7 @@
 -- `build::emit_rows` meets its contract. Assumes nothing.
-use mathlib.Core.Path.{_≡_, refl, sym, ap, _∙_}
+use mathlib.Core.Path.{_∙_}
 use Prim.Native.Nat.{_≤_, _+_, _*_, _-_}
 use native.Mathlib.Omega.{arith}
-use borrow.Author.Needs.{needs}
 use Rattle.net.specs.Items.{net-at}
 use Rattle.explore.specs.States.{threads-of}
 use Rattle.explore.specs.Slots.{slots}
@@ -11,11 +10,6 @@ use Rattle.build.proofs.Writing.{Left, left-size, wrote-size}
 use Rattle.build.proofs.Joining.{rest-rows, rows-start, rows-on, rows-end, does-again}
 use Rattle.build.proofs.emit_rows.Statement.{statement}
 use Rattle.build.proofs.emit_rows.Tie as tie
-use Rattle.build.proofs.emit_rows.Reads as reads
-use Rattle.build.proofs.emit_rows.Lts as lts
-use Rattle.build.proofs.byte_deed.Reads as byte-deed-reads
-use Rattle.build.proofs.emit_row.Reads as emit-row-reads
-use Rattle.build.proofs.row_step.Reads as row-step-reads
 
 abbrev Inv-loop : tie.InvT-loop
 Inv-loop file offs work out₀ s regs count at q₀ b₀ out q b = (1 ≤ b) × ((b ≤ 256) × ((q .at + 196 ≤ at + 196 * b) × (Does (net-at file offs) (slots work 0 count) (threads-of s) (b - 1) (q .deed) × Left out₀ at (rows-bytes (net-at file offs) (slots work 0 count) (threads-of s)) out (q .at) (rest-rows (net-at file offs) (slots work 0 count) (threads-of s) q b))))

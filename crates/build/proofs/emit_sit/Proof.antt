@@ -1,20 +1,11 @@
 -- `build::emit_sit` meets its contract. Assumes nothing.
-use mathlib.Core.Path.{_≡_, refl, sym, ap, _∙_, subst}
 use native.Mathlib.Omega.{arith}
 use Rattle.explore.proofs.Exploration.{loaded-fit}
-use Rattle.build.specs.Writing.{Wrote}
 use Rattle.build.proofs.Writing.{wrote-then, wrote-as}
 use Rattle.build.proofs.Tables.{given, sit-is}
 use borrow.Author.Needs.{needs}
 use Rattle.build.proofs.emit_sit.Statement.{statement}
 use Rattle.build.proofs.emit_sit.Tie as tie
-use Rattle.build.proofs.emit_sit.Reads as reads
-use Rattle.build.proofs.emit_sit.Lts as lts
-use Rattle.build.proofs.emit.Reads as emit-reads
-use Rattle.build.proofs.emit_fields.Reads as emit-fields-reads
-use Rattle.build.proofs.emit_rows.Reads as emit-rows-reads
-use Rattle.build.proofs.ending_of.Reads as ending-of-reads
-use Rattle.explore.proofs.load.Reads as load-reads
 
 load-requires : tie.Need-load-requires
 load-requires c κs = (omega (arith, c .before .before .before .before .pre .1 .0 .0 .kept .room, c .before .before .before .before .pre .1 .0 .0 .kept .most, c .before .before .before .before .pre .1 .0 .1), c .before .before .before .before .pre .1 .0 .0 .kept .holds _ (c .before .before .before .before .pre .1 .0 .1) .few)

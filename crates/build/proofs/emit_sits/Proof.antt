@@ -1,8 +1,6 @@
 -- `build::emit_sits` meets its contract. Assumes nothing.
-use mathlib.Core.Path.{_≡_, refl, sym, ap, _∙_}
 use Prim.Native.Nat.{_≤_, _+_, _*_, _-_}
 use native.Mathlib.Omega.{arith}
-use borrow.Author.Needs.{needs}
 use Rattle.net.specs.Items.{net-at}
 use Rattle.explore.specs.Slots.{slots}
 use Rattle.build.specs.Writing.{sits-bytes}
@@ -10,9 +8,6 @@ use Rattle.build.proofs.Writing.{Left, left-size}
 use Rattle.build.proofs.Tables.{rest-sits, sits-start, sits-on, sits-done}
 use Rattle.build.proofs.emit_sits.Statement.{statement}
 use Rattle.build.proofs.emit_sits.Tie as tie
-use Rattle.build.proofs.emit_sits.Reads as reads
-use Rattle.build.proofs.emit_sits.Lts as lts
-use Rattle.build.proofs.emit_sit.Reads as emit-sit-reads
 
 abbrev Inv-loop : tie.InvT-loop
 Inv-loop file offs work out₀ count at p₀ i₀ out p i = (i ≤ count) × ((p ≤ at + 50186 * i) × Left out₀ at (sits-bytes (net-at file offs) (slots work 0 count) (slots work 0 count)) out p (rest-sits (net-at file offs) work count i))

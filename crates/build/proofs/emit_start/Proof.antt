@@ -1,9 +1,7 @@
 -- `build::emit_start` meets its contract. Assumes nothing.
-use mathlib.Core.Path.{_≡_, refl, sym, ap, _∙_}
 use mathlib.Core.List.{map}
 use Prim.Native.Nat.{_≤_, _+_, _*_, _-_}
 use native.Mathlib.Omega.{arith}
-use borrow.Author.Needs.{needs}
 use Rattle.ground.specs.Lists.{each}
 use Rattle.card.specs.Table.{put, cmd-bytes}
 use Rattle.explore.specs.Lists.{span}
@@ -11,9 +9,6 @@ use Rattle.build.proofs.Writing.{Left, left-size, wrote-then}
 use Rattle.build.proofs.Tables.{rest-sets, sets-start, sets-on, sets-done}
 use Rattle.build.proofs.emit_start.Statement.{statement}
 use Rattle.build.proofs.emit_start.Tie as tie
-use Rattle.build.proofs.emit_start.Reads as reads
-use Rattle.build.proofs.emit_start.Lts as lts
-use Rattle.build.proofs.emit.Reads as emit-reads
 
 abbrev Inv-loop : tie.InvT-loop
 Inv-loop out₀ at n p₀ k₀ out p k = (k ≤ n) × ((p ≤ at + 2 * k) × Left out₀ at (each cmd-bytes (map put (span 0 n))) out p (rest-sets k n))

@@ -1,5 +1,5 @@
 -- `build::emit_table` meets its contract. Assumes nothing.
-use mathlib.Core.Path.{_≡_, refl, sym, ap, _∙_, subst}
+use mathlib.Core.Path.{ap, _∙_}
 use native.Mathlib.Omega.{arith}
 use Rattle.build.specs.Card.{need}
 use Rattle.build.proofs.Writing.{wrote-then, wrote-as}
@@ -7,12 +7,6 @@ use Rattle.build.proofs.Tables.{table-is}
 use borrow.Author.Needs.{needs}
 use Rattle.build.proofs.emit_table.Statement.{statement}
 use Rattle.build.proofs.emit_table.Tie as tie
-use Rattle.build.proofs.emit_table.Reads as reads
-use Rattle.build.proofs.emit_table.Lts as lts
-use Rattle.build.proofs.emit_head.Reads as emit-head-reads
-use Rattle.build.proofs.emit_sits.Reads as emit-sits-reads
-use Rattle.build.proofs.emit_start.Reads as emit-start-reads
-use Rattle.build.proofs.most_of.Reads as most-of-reads
 
 most-of-requires : tie.Need-most-of-requires
 most-of-requires c κs = (omega (arith, c .before .before .before .before .pre .1 .0 .kept .room, c .before .before .before .before .pre .1 .0 .kept .most), λ j b. c .before .before .before .before .pre .1 .0 .kept .holds j b .count)

@@ -1,6 +1,6 @@
 -- `build::ending_of` meets its contract. Assumes nothing.
-use mathlib.Core.Path.{_≡_, refl, sym, ap, _∙_}
-use Prim.Native.Nat.{_≤_, _+_, _*_, _-_}
+use mathlib.Core.Path.{_≡_, refl, sym, _∙_}
+use Prim.Native.Nat.{_≤_, _-_}
 use native.Mathlib.Omega.{arith}
 use borrow.Author.Needs.{needs}
 use lib.ListN.{drop}
@@ -12,9 +12,6 @@ use Rattle.explore.proofs.Biting.{below-at, fit-below}
 use Rattle.build.proofs.Tables.{no-end, an-end, none-ends}
 use Rattle.build.proofs.ending_of.Statement.{statement}
 use Rattle.build.proofs.ending_of.Tie as tie
-use Rattle.build.proofs.ending_of.Reads as reads
-use Rattle.build.proofs.ending_of.Lts as lts
-use Rattle.explore.proofs.end_at.Reads as end-at-reads
 
 abbrev Inv-loop : tie.InvT-loop
 Inv-loop file offs s n i₀ i = (i ≤ n) × (first-end (net-at file offs) (threads-of s) ≡ first-end (net-at file offs) (drop i (threads-of s)))

@@ -1,17 +1,10 @@
 -- `build::make` meets its contract. Assumes nothing.
-use mathlib.Core.Path.{_≡_, refl, sym, ap, _∙_}
 use mathlib.Core.List.{[]}
 use native.Mathlib.Omega.{arith}
 use Rattle.build.proofs.Verdict.{stopped, all-of, some-of, start-of, no-room, room}
 use borrow.Author.Needs.{needs}
 use Rattle.build.proofs.make.Statement.{statement}
 use Rattle.build.proofs.make.Tie as tie
-use Rattle.build.proofs.make.Reads as reads
-use Rattle.build.proofs.make.Lts as lts
-use Rattle.build.proofs.emit_table.Reads as emit-table-reads
-use Rattle.build.proofs.most_of.Reads as most-of-reads
-use Rattle.build.proofs.refuse.Reads as refuse-reads
-use Rattle.explore.proofs.explore.Reads as explore-reads
 
 explore-requires : tie.Need-explore-requires
 explore-requires c κs = search needs

@@ -1,16 +1,13 @@
 -- `build::most_of` meets its contract. Assumes nothing.
-use mathlib.Core.Path.{_≡_, refl, sym, ap, _∙_}
+use mathlib.Core.Path.{_≡_, _∙_}
 use mathlib.Core.Logic.{⊎-elim}
-use Prim.Native.Nat.{_≤_, _+_, _*_, _-_, max}
+use Prim.Native.Nat.{_≤_, _-_, max}
 use native.Mathlib.Omega.{arith}
-use borrow.Author.Needs.{needs}
 use Rattle.explore.specs.Slots.{slots}
 use Rattle.build.specs.Card.{most}
 use Rattle.build.proofs.Tables.{most-start, most-on, most-end, larger, smaller}
 use Rattle.build.proofs.most_of.Statement.{statement}
 use Rattle.build.proofs.most_of.Tie as tie
-use Rattle.build.proofs.most_of.Reads as reads
-use Rattle.build.proofs.most_of.Lts as lts
 
 abbrev Inv-loop : tie.InvT-loop
 Inv-loop work count m₀ j₀ m j = (j ≤ count) × (max m (most (slots work j (count - j))) ≡ most (slots work 0 count))

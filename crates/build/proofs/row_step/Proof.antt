@@ -1,19 +1,12 @@
 -- `build::row_step` meets its contract. Assumes nothing.
-use mathlib.Core.Path.{_≡_, refl, sym, ap, _∙_}
+use mathlib.Core.Path.{sym, _∙_}
 use Prim.Native.Nat.{_<_}
-use native.Mathlib.Omega.{arith}
 use borrow.Author.Tests.{not-true}
 use Rattle.explore.proofs.Classes.{next-alike, origins-alike}
 use Rattle.build.proofs.Joining.{skipped-byte, joins, parts}
 use borrow.Author.Needs.{needs}
 use Rattle.build.proofs.row_step.Statement.{statement}
 use Rattle.build.proofs.row_step.Tie as tie
-use Rattle.build.proofs.row_step.Reads as reads
-use Rattle.build.proofs.row_step.Lts as lts
-use Rattle.build.proofs.byte_deed.Reads as byte-deed-reads
-use Rattle.build.proofs.emit_row.Reads as emit-row-reads
-use Rattle.build.proofs.same_deed.Reads as same-deed-reads
-use Rattle.explore.proofs.fresh.Reads as fresh-reads
 
 fresh-requires : tie.Need-fresh-requires
 fresh-requires c κs = search needs

@@ -1,13 +1,9 @@
 -- `build::same_deed` meets its contract. Assumes nothing.
-use mathlib.Core.Path.{_≡_, refl, sym, ap, _∙_}
-use borrow.Author.Tests.{eq-eqb, ne-eqb}
+use mathlib.Core.Path.{_∙_}
 use Rattle.build.proofs.Commands.{deeds-apart, deeds-by}
 use borrow.Author.Needs.{needs}
 use Rattle.build.proofs.same_deed.Statement.{statement}
 use Rattle.build.proofs.same_deed.Tie as tie
-use Rattle.build.proofs.same_deed.Reads as reads
-use Rattle.build.proofs.same_deed.Lts as lts
-use Rattle.build.proofs.same_orders.Reads as same-orders-reads
 
 returns : tie.Need-returns
 returns c = deeds-apart (c .before .before .before .args .a) (c .before .before .before .args .b) (c .if1 .taken)

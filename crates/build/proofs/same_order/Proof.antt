@@ -1,11 +1,9 @@
 -- `build::same_order` meets its contract. Assumes nothing.
-use mathlib.Core.Path.{_≡_, refl, sym, ap, _∙_}
+use mathlib.Core.Path.{sym, _∙_}
 use borrow.Author.Tests.{ne-eqb, eq-eqb}
 use Rattle.build.proofs.Commands.{set-set, set-move, move-set, move-move}
 use Rattle.build.proofs.same_order.Statement.{statement}
 use Rattle.build.proofs.same_order.Tie as tie
-use Rattle.build.proofs.same_order.Reads as reads
-use Rattle.build.proofs.same_order.Lts as lts
 
 returns : tie.Need-returns
 returns c = sym (set-set (c .before .before .before .before .args .a) (c .before .before .before .before .args .b) (c .before .before .before .if1 .taken) (c .before .before .if2 .taken))

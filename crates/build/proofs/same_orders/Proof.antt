@@ -1,7 +1,7 @@
 -- `build::same_orders` meets its contract. Assumes nothing.
 use borrow.Author.Tests.{not-true, not-false}
-use mathlib.Core.Path.{_≡_, refl, sym, ap, _∙_}
-use Prim.Native.Nat.{_≤_, _+_, _*_, _-_}
+use mathlib.Core.Path.{_≡_, refl, sym, _∙_}
+use Prim.Native.Nat.{_≤_, _-_}
 use native.Mathlib.Omega.{arith}
 use borrow.Author.Needs.{needs}
 use lib.ListN.{drop}
@@ -12,9 +12,6 @@ use Rattle.build.specs.Writing.{orders-of}
 use Rattle.build.proofs.Commands.{orders-length, same-short, same-step, same-stop, same-end}
 use Rattle.build.proofs.same_orders.Statement.{statement}
 use Rattle.build.proofs.same_orders.Tie as tie
-use Rattle.build.proofs.same_orders.Reads as reads
-use Rattle.build.proofs.same_orders.Lts as lts
-use Rattle.build.proofs.same_order.Reads as same-order-reads
 
 abbrev Inv-loop : tie.InvT-loop
 Inv-loop a b n m i₀ i = (i ≤ n) × ((n ≡ m) × (same-list same-cmd (orders-of a) (orders-of b) ≡ same-list same-cmd (drop i (orders-of a)) (drop i (orders-of b))))

@@ -1,8 +1,8 @@
 -- `explore::visit` meets its contract. Assumes nothing.
-use mathlib.Core.Path.{_≡_, refl, sym, ap, _∙_}
+use mathlib.Core.Path.{sym, _∙_}
 use native.Mathlib.Omega.{arith}
 use borrow.Author.Needs.{needs}
-use Rattle.explore.proofs.Going.{both-inside, store-inside, way-both, way-store, way-stay, went-both, went-store, stayed, went-none, went-known, room-after, ready-noted, ready-put}
+use Rattle.explore.proofs.Going.{both-inside, store-inside, way-both, way-store, went-both, went-store, stayed, went-none, went-known, room-after, ready-noted, ready-put}
 use Prim.Native.Nat.{ℕ, _<_}
 use borrow.Fn.Kinds.{In}
 use borrow.Fn.PlainCycle.{Measures, is, falls, and}

@@ -1,5 +1,5 @@
 -- `explore::begin_of` meets its contract. Assumes nothing.
-use mathlib.Core.Path.{_≡_, refl, sym, ap, _∙_}
+use mathlib.Core.Path.{refl}
 use native.Mathlib.Omega.{arith}
 use Rattle.explore.proofs.Going.{new-ready, new-means}
 use Rattle.net.proofs.Inside.{net-length}
@@ -7,11 +7,6 @@ use Rattle.explore.proofs.Naming.{begun, began, first-thread}
 use borrow.Author.Needs.{needs}
 use Rattle.explore.proofs.begin_of.Statement.{statement}
 use Rattle.explore.proofs.begin_of.Tie as tie
-use Rattle.explore.proofs.begin_of.Reads as reads
-use Rattle.explore.proofs.begin_of.Lts as lts
-use Rattle.explore.proofs.Found.new.Reads as new-reads
-use Rattle.explore.proofs.number_of.Reads as number-of-reads
-use Rattle.explore.proofs.visit.Reads as visit-reads
 
 new-requires : tie.Need-new-requires
 new-requires c κs = search needs

@@ -1,5 +1,5 @@
 -- `explore::bite_at` meets its contract. Assumes nothing.
-use mathlib.Core.Path.{_≡_, refl, sym, ap, _∙_}
+use mathlib.Core.Path.{sym, ap, _∙_}
 use native.Mathlib.Omega.{arith}
 use Rattle.paths.specs.Situation.{bite}
 use Rattle.explore.specs.Items.{lands}
@@ -10,8 +10,6 @@ use Rattle.explore.proofs.Biting.{range-in-it, range-under, range-over,
 use borrow.Author.Needs.{needs}
 use Rattle.explore.proofs.bite_at.Statement.{statement}
 use Rattle.explore.proofs.bite_at.Tie as tie
-use Rattle.explore.proofs.bite_at.Reads as reads
-use Rattle.explore.proofs.bite_at.Lts as lts
 
 mul-at : tie.Need-mul-at
 mul-at c = search needs

@@ -1,14 +1,8 @@
 -- `explore::consume` meets its contract. Assumes nothing.
-use native.Mathlib.Omega.{arith}
 use Rattle.explore.proofs.Biting.{ate-none, ate-in, ate-one}
 use borrow.Author.Needs.{needs}
 use Rattle.explore.proofs.consume.Statement.{statement}
 use Rattle.explore.proofs.consume.Tie as tie
-use Rattle.explore.proofs.consume.Reads as reads
-use Rattle.explore.proofs.consume.Lts as lts
-use Rattle.explore.proofs.Entry.moved.Reads as moved-reads
-use Rattle.explore.proofs.bite_at.Reads as bite-at-reads
-use Rattle.explore.proofs.visit.Reads as visit-reads
 
 bite-at-requires : tie.Need-bite-at-requires
 bite-at-requires c κs = search needs

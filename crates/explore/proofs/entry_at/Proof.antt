@@ -1,14 +1,11 @@
 -- `explore::entry_at` meets its contract. Assumes nothing.
-use mathlib.Core.Path.{_≡_, refl, sym, ap, _∙_}
+use mathlib.Core.Path.{_≡_, refl, sym, _∙_}
 use Prim.Native.Nat.{ℕ, _≤_, _<_, _+_, _-_}
 use native.Mathlib.Omega.{arith}
-use borrow.Author.Needs.{needs}
 use lib.ListN.{length, getD, length-set}
 use Rattle.explore.proofs.Memory.{read-more, thread-at-is}
 use Rattle.explore.proofs.entry_at.Statement.{statement}
 use Rattle.explore.proofs.entry_at.Tie as tie
-use Rattle.explore.proofs.entry_at.Reads as reads
-use Rattle.explore.proofs.entry_at.Lts as lts
 
 abbrev Inv-loop : tie.InvT-loop
 Inv-loop work at had₀ t₀ had t = (t ≤ 8) × ((length had ≡ 8) × ((k : ℕ) → k < t → getD work (at + 1 + k) 0 ≡ getD had k 0))

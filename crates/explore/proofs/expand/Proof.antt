@@ -1,28 +1,22 @@
 -- `explore::expand` meets its contract. Assumes nothing.
-use mathlib.Core.Path.{_≡_, refl, sym, ap, _∙_}
+use mathlib.Core.Path.{_≡_, refl, sym, _∙_}
 use mathlib.Core.Logic.{⊎-elim}
 use Rattle.explore.proofs.Classes.{skipped}
-use mathlib.Core.List.{List, [], _∷_, map}
-use Prim.Native.Nat.{ℕ, _≤_, _<_, _+_, _*_, _-_}
+use mathlib.Core.List.{map}
+use Prim.Native.Nat.{_≤_, _-_}
 use native.Mathlib.Omega.{arith}
-use borrow.Author.Needs.{needs}
 use lib.ListN.{length}
 use Rattle.paths.specs.Registers.{next}
 use Rattle.paths.specs.Equal.{same-situation}
 use Rattle.paths.specs.Numbering.{once}
 use Rattle.net.specs.Items.{net-at}
 use Rattle.explore.specs.States.{threads-of}
-use Rattle.explore.specs.Slots.{slot, slots}
+use Rattle.explore.specs.Slots.{slots}
 use Rattle.paths.specs.Limits.{bytes}
 use Rattle.explore.specs.Explore.{Kept}
 use Rattle.explore.proofs.Exploration.{once-none, expand-stop, expand-on, expanded, loaded-fit, loaded-count}
 use Rattle.explore.proofs.expand.Statement.{statement}
 use Rattle.explore.proofs.expand.Tie as tie
-use Rattle.explore.proofs.expand.Reads as reads
-use Rattle.explore.proofs.expand.Lts as lts
-use Rattle.explore.proofs.fresh.Reads as fresh-reads
-use Rattle.explore.proofs.load.Reads as load-reads
-use Rattle.explore.proofs.try_byte.Reads as try-byte-reads
 
 abbrev Inv-loop : tie.InvT-loop
 Inv-loop file offs work₀ i count s regs n₀ b₀ work n b = (b ≤ 256) × ((length work ≡ length work₀) × (Kept (length offs) work n × (slots work 0 n ≡ once same-situation (slots work₀ 0 count) (map (λ b. next (net-at file offs) b (threads-of s)) (bytes 0 b)))))

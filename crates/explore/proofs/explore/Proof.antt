@@ -1,21 +1,15 @@
 -- `explore::explore` meets its contract. Assumes nothing.
-use mathlib.Core.Path.{_≡_, refl, sym, ap, _∙_}
-use Prim.Native.Nat.{ℕ, _≤_, _<_, _+_, _*_, _-_}
+use mathlib.Core.Path.{_≡_, refl, _∙_}
+use Prim.Native.Nat.{_≤_, _-_}
 use native.Mathlib.Omega.{arith}
-use borrow.Author.Needs.{needs}
 use lib.ListN.{length}
 use Rattle.net.specs.Items.{net-at}
-use Rattle.explore.specs.Slots.{slot, slots}
+use Rattle.explore.specs.Slots.{slots}
 use Rattle.paths.specs.Limits.{first}
 use Rattle.explore.specs.Explore.{Kept}
 use Rattle.explore.proofs.Exploration.{start-over, start-kept, start-slots, explore-stop, explore-on, explored-all-of}
 use Rattle.explore.proofs.explore.Statement.{statement}
 use Rattle.explore.proofs.explore.Tie as tie
-use Rattle.explore.proofs.explore.Reads as reads
-use Rattle.explore.proofs.explore.Lts as lts
-use Rattle.explore.proofs.begin_of.Reads as begin-of-reads
-use Rattle.explore.proofs.expand.Reads as expand-reads
-use Rattle.explore.proofs.store.Reads as store-reads
 
 abbrev Inv-loop : tie.InvT-loop
 Inv-loop file offs work₀ k count₀ i₀ work count i = (i ≤ count) × ((length work ≡ length work₀) × (Kept (length offs) work count × (slots work 0 count ≡ first (net-at file offs) i)))

@@ -1,8 +1,7 @@
 -- `explore::fresh` meets its contract. Assumes nothing.
-use mathlib.Core.Path.{_≡_, refl, sym, ap, _∙_}
-use Prim.Native.Nat.{ℕ, _≤_, _<_, _+_, _-_}
+use mathlib.Core.Path.{_≡_, sym, _∙_}
+use Prim.Native.Nat.{ℕ, _≤_, _<_, _-_}
 use native.Mathlib.Omega.{arith}
-use borrow.Author.Needs.{needs}
 use lib.ListN.{length}
 use Rattle.net.specs.Rec.{rec}
 use Rattle.paths.specs.Situation.{bite}
@@ -11,9 +10,6 @@ use Rattle.explore.specs.Items.{lands}
 use Rattle.explore.proofs.Classes.{alike-more}
 use Rattle.explore.proofs.fresh.Statement.{statement}
 use Rattle.explore.proofs.fresh.Tie as tie
-use Rattle.explore.proofs.fresh.Reads as reads
-use Rattle.explore.proofs.fresh.Lts as lts
-use Rattle.explore.proofs.bite_at.Reads as bite-at-reads
 
 abbrev Inv-loop : tie.InvT-loop
 Inv-loop file offs b r₀ r = (r ≤ length offs) × ((k : ℕ) → k < r → lands (bite b (rec (net-at file offs) k)) ≡ lands (bite (b - 1) (rec (net-at file offs) k)))

@@ -1,20 +1,17 @@
 -- `explore::gather` meets its contract. Assumes nothing.
-use mathlib.Core.Path.{_≡_, refl, sym, ap, _∙_}
-use mathlib.Core.Logic.{_⊎_, inl, inr, ⊎-elim}
-use mathlib.Core.List.{List, [], _∷_, _++_, map, foldl}
-use Prim.Native.Nat.{ℕ, _≤_, _+_, _-_}
+use mathlib.Core.Path.{_≡_, refl, ap}
+use mathlib.Core.Logic.{_⊎_, ⊎-elim}
+use mathlib.Core.List.{foldl}
+use Prim.Native.Nat.{_≤_, _-_}
 use native.Mathlib.Omega.{arith}
 use borrow.Author.Needs.{needs}
-use lib.ListN.{length, take, getD}
+use lib.ListN.{length, take}
 use Rattle.paths.specs.Registers.{note, holds}
 use Rattle.explore.specs.States.{tags-of}
 use Rattle.explore.specs.Keys.{keys-of}
 use Rattle.explore.proofs.Naming.{gather-over, gather-on, gather-skip, gathered, whole-tags}
 use Rattle.explore.proofs.gather.Statement.{statement}
 use Rattle.explore.proofs.gather.Tie as tie
-use Rattle.explore.proofs.gather.Reads as reads
-use Rattle.explore.proofs.gather.Lts as lts
-use Rattle.explore.proofs.Regs.add.Reads as add-reads
 
 abbrev Inv-loop : tie.InvT-loop
 Inv-loop e k₀ t₀ k t = (t ≤ 8) × ((k .n ≤ 64) × (keys-of k ≡ foldl note (keys-of k₀) (holds 0 (take t (tags-of (e .had))))))

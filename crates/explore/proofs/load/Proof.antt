@@ -1,21 +1,15 @@
 -- `explore::load` meets its contract. Assumes nothing.
-use mathlib.Core.Path.{_≡_, refl, sym, ap, _∙_}
-use mathlib.Core.List.{List, [], _∷_, _++_}
-use Prim.Native.Nat.{ℕ, _≤_, _<_, _+_, _*_, _-_}
+use mathlib.Core.Path.{_≡_, sym, ap, _∙_}
+use mathlib.Core.List.{[], _∷_, _++_}
+use Prim.Native.Nat.{_≤_, _+_, _*_, _-_}
 use native.Mathlib.Omega.{arith}
 use borrow.Author.Needs.{needs}
-use lib.ListN.{length, getD}
 use Rattle.explore.specs.States.{thread-of, threads-of}
-use Rattle.explore.specs.Slots.{thread-at, threads-at, slot}
+use Rattle.explore.specs.Slots.{threads-at}
 use Rattle.explore.proofs.Going.{none-yet}
 use Rattle.explore.proofs.Memory.{threads-snoc, no-threads, slot-whole}
 use Rattle.explore.proofs.load.Statement.{statement}
 use Rattle.explore.proofs.load.Tie as tie
-use Rattle.explore.proofs.load.Reads as reads
-use Rattle.explore.proofs.load.Lts as lts
-use Rattle.explore.proofs.Found.new.Reads as new-reads
-use Rattle.explore.proofs.Found.put.Reads as put-reads
-use Rattle.explore.proofs.entry_at.Reads as entry-at-reads
 
 abbrev Inv-loop : tie.InvT-loop
 Inv-loop work j base n f₀ i₀ f i = (i ≤ n) × ((f .n ≡ i) × (threads-of f ≡ threads-at work (578 * j + 2) i))

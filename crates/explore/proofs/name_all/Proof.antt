@@ -1,10 +1,10 @@
 -- `explore::name_all` meets its contract. Assumes nothing.
-use mathlib.Core.Path.{_≡_, refl, sym, ap, _∙_}
-use mathlib.Core.List.{List, [], _∷_, _++_, map, foldl}
-use Prim.Native.Nat.{ℕ, _≤_, _+_, _-_}
+use mathlib.Core.Path.{_≡_, sym, ap, _∙_}
+use mathlib.Core.List.{[], _∷_, _++_, map}
+use Prim.Native.Nat.{_≤_, _+_, _-_}
 use native.Mathlib.Omega.{arith}
 use borrow.Author.Needs.{needs}
-use lib.ListN.{length, take, drop, getD}
+use lib.ListN.{take}
 use Rattle.paths.specs.Registers.{index, rename}
 use Rattle.explore.specs.States.{thread-of, threads-of}
 use Rattle.explore.specs.Keys.{keys-of}
@@ -13,11 +13,6 @@ use Rattle.explore.proofs.Going.{none-yet}
 use Rattle.explore.proofs.Naming.{rename-more, threads-whole}
 use Rattle.explore.proofs.name_all.Statement.{statement}
 use Rattle.explore.proofs.name_all.Tie as tie
-use Rattle.explore.proofs.name_all.Reads as reads
-use Rattle.explore.proofs.name_all.Lts as lts
-use Rattle.explore.proofs.Found.new.Reads as new-reads
-use Rattle.explore.proofs.Found.put.Reads as put-reads
-use Rattle.explore.proofs.name_entry.Reads as name-entry-reads
 
 abbrev Inv-loop : tie.InvT-loop
 Inv-loop regs s n f₀ i₀ f i = (i ≤ n) × ((f .n ≡ i) × (threads-of f ≡ rename (λ t p. index (t, p) (keys-of regs)) (map thread-of (take i (s .list)))))

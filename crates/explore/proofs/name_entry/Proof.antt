@@ -1,8 +1,8 @@
 -- `explore::name_entry` meets its contract. Assumes nothing.
-use mathlib.Core.Path.{_≡_, refl, sym, ap, _∙_}
-use mathlib.Core.Logic.{_⊎_, inl, inr, ⊎-elim}
-use mathlib.Core.List.{List, [], _∷_, _++_, map, foldl}
-use Prim.Native.Nat.{ℕ, _≤_, _+_, _-_}
+use mathlib.Core.Path.{_≡_, refl, _∙_}
+use mathlib.Core.Logic.{_⊎_, ⊎-elim}
+use mathlib.Core.List.{_++_}
+use Prim.Native.Nat.{_≤_, _+_, _-_}
 use native.Mathlib.Omega.{arith}
 use borrow.Author.Needs.{needs}
 use lib.ListN.{length, take, drop, getD, length-set}
@@ -13,9 +13,6 @@ use Rattle.explore.proofs.Bits.{unmapped}
 use Rattle.explore.proofs.Naming.{name-skip, name-one, named-all, index-small}
 use Rattle.explore.proofs.name_entry.Statement.{statement}
 use Rattle.explore.proofs.name_entry.Tie as tie
-use Rattle.explore.proofs.name_entry.Reads as reads
-use Rattle.explore.proofs.name_entry.Lts as lts
-use Rattle.explore.proofs.Regs.find.Reads as find-reads
 
 abbrev Inv-loop : tie.InvT-loop
 Inv-loop regs e d₀ t₀ d t = (t ≤ 8) × ((d .on ≡ e .on) × ((length (d .had) ≡ 8) × (tags-of (d .had) ≡ renamed (λ u p. index (u, p) (keys-of regs)) 0 (take t (tags-of (e .had))) ++ drop t (tags-of (e .had)))))

@@ -3,10 +3,6 @@ use Rattle.explore.proofs.Naming.{stepped}
 use borrow.Author.Needs.{needs}
 use Rattle.explore.proofs.next_of.Statement.{statement}
 use Rattle.explore.proofs.next_of.Tie as tie
-use Rattle.explore.proofs.next_of.Reads as reads
-use Rattle.explore.proofs.next_of.Lts as lts
-use Rattle.explore.proofs.number_of.Reads as number-of-reads
-use Rattle.explore.proofs.sweep.Reads as sweep-reads
 
 sweep-requires : tie.Need-sweep-requires
 sweep-requires c κs = search needs

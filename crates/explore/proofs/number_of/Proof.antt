@@ -1,14 +1,9 @@
 -- `explore::number_of` meets its contract. Assumes nothing.
-use mathlib.Core.Path.{_≡_, refl, sym, ap, _∙_}
 use Rattle.explore.proofs.Bits.{unmapped}
 use Rattle.explore.proofs.Naming.{number-over, number-fine, fit-renamed}
 use borrow.Author.Needs.{needs}
 use Rattle.explore.proofs.number_of.Statement.{statement}
 use Rattle.explore.proofs.number_of.Tie as tie
-use Rattle.explore.proofs.number_of.Reads as reads
-use Rattle.explore.proofs.number_of.Lts as lts
-use Rattle.explore.proofs.name_all.Reads as name-all-reads
-use Rattle.explore.proofs.registers_of.Reads as registers-of-reads
 
 registers-of-requires : tie.Need-registers-of-requires
 registers-of-requires c κs = search needs

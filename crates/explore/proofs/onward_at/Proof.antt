@@ -1,5 +1,5 @@
 -- `explore::onward_at` meets its contract. Assumes nothing.
-use mathlib.Core.Path.{_≡_, refl, sym, ap, _∙_}
+use mathlib.Core.Path.{sym, ap, _∙_}
 use native.Mathlib.Omega.{arith}
 use Rattle.explore.specs.Onward.{onward-of}
 use Rattle.net.proofs.Reading.{at-fork, at-tag}
@@ -8,8 +8,6 @@ use Rattle.net.proofs.Inside.{rec-net}
 use borrow.Author.Needs.{needs}
 use Rattle.explore.proofs.onward_at.Statement.{statement}
 use Rattle.explore.proofs.onward_at.Tie as tie
-use Rattle.explore.proofs.onward_at.Reads as reads
-use Rattle.explore.proofs.onward_at.Lts as lts
 
 mul-at : tie.Need-mul-at
 mul-at c = search needs

@@ -1,18 +1,14 @@
 -- `explore::place` meets its contract. Assumes nothing.
-use mathlib.Core.Path.{_≡_, refl, sym, ap, _∙_}
-use mathlib.Core.Bool.{true, false}
-use Prim.Native.Nat.{ℕ, _≤_, _<_, _+_, _*_, _-_}
+use mathlib.Core.Path.{_≡_, sym, _∙_}
+use mathlib.Core.Bool.{false}
+use Prim.Native.Nat.{ℕ, _≤_, _<_, _-_}
 use native.Mathlib.Omega.{arith}
-use borrow.Author.Needs.{needs}
 use Rattle.paths.specs.Equal.{same-situation}
 use Rattle.explore.specs.States.{threads-of}
 use Rattle.explore.specs.Slots.{slot}
 use Rattle.explore.proofs.Memory.{placed-at, placed-none, none-more}
 use Rattle.explore.proofs.place.Statement.{statement}
 use Rattle.explore.proofs.place.Tie as tie
-use Rattle.explore.proofs.place.Reads as reads
-use Rattle.explore.proofs.place.Lts as lts
-use Rattle.explore.proofs.same.Reads as same-reads
 
 abbrev Inv-loop : tie.InvT-loop
 Inv-loop work count s j₀ j = (j ≤ count) × ((k : ℕ) → k < j → same-situation (threads-of s) (slot work k) ≡ false)

@@ -1,6 +1,6 @@
 -- `explore::put_entry` meets its contract. Assumes nothing.
-use mathlib.Core.Path.{_≡_, refl, sym, ap, _∙_}
-use mathlib.Core.Logic.{_⊎_, inl, inr}
+use mathlib.Core.Path.{_≡_, refl, _∙_}
+use mathlib.Core.Logic.{_⊎_}
 use Prim.Native.Nat.{ℕ, _≤_, _<_, _+_, _-_}
 use native.Mathlib.Omega.{arith}
 use borrow.Author.Needs.{needs}
@@ -8,8 +8,6 @@ use lib.ListN.{length, getD, set, length-set}
 use Rattle.explore.proofs.Memory.{wrote, wrote-more, else-more}
 use Rattle.explore.proofs.put_entry.Statement.{statement}
 use Rattle.explore.proofs.put_entry.Tie as tie
-use Rattle.explore.proofs.put_entry.Reads as reads
-use Rattle.explore.proofs.put_entry.Lts as lts
 
 abbrev Inv-loop : tie.InvT-loop
 Inv-loop work₀ at e t₀ work t = (t ≤ 8) × ((length work ≡ length work₀) × (((k : ℕ) → k < t → getD work (at + 1 + k) 0 ≡ getD (e .had) k 0) × ((k : ℕ) → (k < at + 1) ⊎ (at + 1 + t ≤ k) → getD work k 0 ≡ getD work₀ k 0)))

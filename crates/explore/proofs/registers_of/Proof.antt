@@ -1,10 +1,10 @@
 -- `explore::registers_of` meets its contract. Assumes nothing.
-use mathlib.Core.Path.{_≡_, refl, sym, ap, _∙_}
-use mathlib.Core.List.{List, [], _∷_, _++_, map, foldl}
-use Prim.Native.Nat.{ℕ, _≤_, _+_, _-_}
+use mathlib.Core.Path.{_≡_, ap}
+use mathlib.Core.List.{[], map, foldl}
+use Prim.Native.Nat.{_≤_, _-_}
 use native.Mathlib.Omega.{arith}
 use borrow.Author.Needs.{needs}
-use lib.ListN.{length, take, drop, getD}
+use lib.ListN.{take}
 use Rattle.paths.specs.Registers.{note, held-by}
 use Rattle.explore.specs.States.{thread-of}
 use Rattle.explore.specs.Keys.{keys-of}
@@ -12,10 +12,6 @@ use Rattle.explore.proofs.Bits.{unmapped}
 use Rattle.explore.proofs.Naming.{list-over, list-on, gathered, threads-whole, no-keys}
 use Rattle.explore.proofs.registers_of.Statement.{statement}
 use Rattle.explore.proofs.registers_of.Tie as tie
-use Rattle.explore.proofs.registers_of.Reads as reads
-use Rattle.explore.proofs.registers_of.Lts as lts
-use Rattle.explore.proofs.Regs.new.Reads as new-reads
-use Rattle.explore.proofs.gather.Reads as gather-reads
 
 abbrev Inv-loop : tie.InvT-loop
 Inv-loop s n k₀ i₀ k i = (i ≤ n) × ((k .n ≤ 64) × (keys-of k ≡ foldl note [] (held-by (map thread-of (take i (s .list))))))

@@ -1,20 +1,16 @@
 -- `explore::same` meets its contract. Assumes nothing.
 use borrow.Author.Tests.{not-true, not-false}
-use mathlib.Core.Path.{_≡_, refl, sym, ap, _∙_}
-use mathlib.Core.List.{List, [], _∷_, _++_}
+use mathlib.Core.Path.{_≡_, sym, _∙_}
+use mathlib.Core.List.{[]}
 use Prim.Native.Nat.{ℕ, _≤_, _<_, _+_, _*_, _-_}
 use native.Mathlib.Omega.{arith}
-use borrow.Author.Needs.{needs}
-use lib.ListN.{length, getD}
-use Rattle.explore.specs.States.{thread-of, threads-of}
-use Rattle.explore.specs.Slots.{thread-at, threads-at, slot}
+use lib.ListN.{getD}
+use Rattle.explore.specs.States.{thread-of}
+use Rattle.explore.specs.Slots.{thread-at}
 use Rattle.explore.proofs.Bits.{unmapped}
 use Rattle.explore.proofs.Memory.{other-count, other-entry, all-same, same-more}
 use Rattle.explore.proofs.same.Statement.{statement}
 use Rattle.explore.proofs.same.Tie as tie
-use Rattle.explore.proofs.same.Reads as reads
-use Rattle.explore.proofs.same.Lts as lts
-use Rattle.explore.proofs.same_entry.Reads as same-entry-reads
 
 abbrev Inv-loop : tie.InvT-loop
 Inv-loop work j s base n m i₀ i = (i ≤ n) × ((k : ℕ) → k < i → thread-of (getD (s .list) k (record { on = 0; had = [] })) ≡ thread-at work (578 * j + 2 + 9 * k))

@@ -1,14 +1,12 @@
 -- `explore::same_entry` meets its contract. Assumes nothing.
-use mathlib.Core.Path.{_≡_, refl, sym, ap, _∙_}
+use mathlib.Core.Path.{_≡_}
 use Prim.Native.Nat.{ℕ, _≤_, _<_, _+_, _-_}
 use native.Mathlib.Omega.{arith}
 use borrow.Author.Needs.{needs}
-use lib.ListN.{length, getD, length-set}
+use lib.ListN.{length, getD}
 use Rattle.explore.proofs.Memory.{differ-on, differ-had, same-all, eq-more}
 use Rattle.explore.proofs.same_entry.Statement.{statement}
 use Rattle.explore.proofs.same_entry.Tie as tie
-use Rattle.explore.proofs.same_entry.Reads as reads
-use Rattle.explore.proofs.same_entry.Lts as lts
 
 abbrev Inv-loop : tie.InvT-loop
 Inv-loop work at e t₀ t = (t ≤ 8) × ((k : ℕ) → k < t → getD work (at + 1 + k) 0 ≡ getD (e .had) k 0)

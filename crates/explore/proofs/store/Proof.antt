@@ -1,20 +1,16 @@
 -- `explore::store` meets its contract. Assumes nothing.
-use mathlib.Core.Path.{_≡_, refl, sym, ap, _∙_}
-use mathlib.Core.Logic.{_⊎_, inl, inr}
-use mathlib.Core.List.{List, [], _∷_, _++_}
+use mathlib.Core.Path.{_≡_, refl, _∙_}
+use mathlib.Core.Logic.{_⊎_}
+use mathlib.Core.List.{[]}
 use Prim.Native.Nat.{ℕ, _≤_, _<_, _+_, _*_, _-_}
 use native.Mathlib.Omega.{arith}
-use borrow.Author.Needs.{needs}
 use lib.ListN.{length, getD, set, length-set}
-use Rattle.explore.specs.States.{thread-of, threads-of}
-use Rattle.explore.specs.Slots.{thread-at, threads-at, slot}
+use Rattle.explore.specs.States.{thread-of}
+use Rattle.explore.specs.Slots.{thread-at}
 use Rattle.explore.proofs.Bits.{unmapped}
 use Rattle.explore.proofs.Memory.{store-more, store-else, stored}
 use Rattle.explore.proofs.store.Statement.{statement}
 use Rattle.explore.proofs.store.Tie as tie
-use Rattle.explore.proofs.store.Reads as reads
-use Rattle.explore.proofs.store.Lts as lts
-use Rattle.explore.proofs.put_entry.Reads as put-entry-reads
 
 abbrev Inv-loop : tie.InvT-loop
 Inv-loop work₀ j count s base n i₀ work i = (i ≤ n) × ((length work ≡ length work₀) × (((k : ℕ) → k < i → thread-at work (578 * j + 2 + 9 * k) ≡ thread-of (getD (s .list) k (record { on = 0; had = [] }))) × ((k : ℕ) → (k < 578 * j + 2) ⊎ (578 * j + 2 + 9 * i ≤ k) → getD work k 0 ≡ getD work₀ k 0)))

@@ -1,25 +1,21 @@
 -- `explore::sweep` meets its contract. Assumes nothing.
-use mathlib.Core.Path.{_≡_, refl, sym, ap, _∙_, subst}
-use mathlib.Core.List.{List, [], _∷_, map, foldl}
-use Prim.Native.Nat.{ℕ, suc, _≤_, _-_}
+use mathlib.Core.Path.{sym, subst}
+use mathlib.Core.List.{[], map, foldl}
+use Prim.Native.Nat.{suc, _≤_, _-_}
 use native.Mathlib.Omega.{arith}
 use borrow.Author.Needs.{needs}
 use lib.ListN.{length, take}
 use Rattle.ground.specs.Lists.{each}
 use Rattle.paths.specs.Situation.{on-byte}
 use Rattle.paths.specs.Registers.{tagged}
-use Rattle.paths.specs.Marks.{Marked, marking}
+use Rattle.paths.specs.Marks.{marking}
 use Rattle.net.specs.Items.{net-at}
-use Rattle.explore.specs.States.{thread-of, threads-of, Ready, Means}
+use Rattle.explore.specs.States.{thread-of, Ready, Means}
 use Rattle.explore.proofs.Bits.{unmapped}
 use Rattle.explore.proofs.Going.{new-ready, new-means}
 use Rattle.explore.proofs.Biting.{one-more, below-at, fit-below, swept}
 use Rattle.explore.proofs.sweep.Statement.{statement}
 use Rattle.explore.proofs.sweep.Tie as tie
-use Rattle.explore.proofs.sweep.Reads as reads
-use Rattle.explore.proofs.sweep.Lts as lts
-use Rattle.explore.proofs.Found.new.Reads as new-reads
-use Rattle.explore.proofs.consume.Reads as consume-reads
 
 abbrev Inv-loop : tie.InvT-loop
 Inv-loop file offs stamp b s n f₀ i₀ f i = (i ≤ n) × (Ready (length offs) f × Means f (foldl (marking (tagged stamp) (net-at file offs) (suc (length (net-at file offs)))) (record { marks = []; list = [] }) (each (on-byte (tagged stamp) (net-at file offs) b) (map thread-of (take i (s .list))))))

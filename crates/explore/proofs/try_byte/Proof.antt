@@ -4,11 +4,6 @@ use Rattle.explore.proofs.Exploration.{tried-over, tried-old, tried-ful
 use borrow.Author.Needs.{needs}
 use Rattle.explore.proofs.try_byte.Statement.{statement}
 use Rattle.explore.proofs.try_byte.Tie as tie
-use Rattle.explore.proofs.try_byte.Reads as reads
-use Rattle.explore.proofs.try_byte.Lts as lts
-use Rattle.explore.proofs.next_of.Reads as next-of-reads
-use Rattle.explore.proofs.place.Reads as place-reads
-use Rattle.explore.proofs.store.Reads as store-reads
 
 next-of-requires : tie.Need-next-of-requires
 next-of-requires c κs = (c .before .before .before .pre .0, (c .before .before .before .pre .1 .1 .0, (c .before .before .before .pre .1 .1 .1 .0, omega (arith, c .before .before .before .pre .1 .1 .1 .1))))

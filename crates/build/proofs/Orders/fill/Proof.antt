@@ -1,5 +1,5 @@
 -- `build::Orders::fill` meets its contract. Assumes nothing.
-use mathlib.Core.Path.{_≡_, refl, sym, ap, _∙_}
+use mathlib.Core.Path.{sym, ap, _∙_}
 use mathlib.Core.List.{_++_, append-nil}
 use native.Mathlib.Omega.{arith}
 use Rattle.build.specs.Writing.{order-of, orders-of}
@@ -7,9 +7,6 @@ use Rattle.build.proofs.Commands.{filled-set, filled-none, filled-move}
 use borrow.Author.Needs.{needs}
 use Rattle.build.proofs.Orders.fill.Statement.{statement}
 use Rattle.build.proofs.Orders.fill.Tie as tie
-use Rattle.build.proofs.Orders.fill.Reads as reads
-use Rattle.build.proofs.Orders.fill.Lts as lts
-use Rattle.build.proofs.Orders.with.Reads as with-reads
 
 with-requires : tie.Need-with-requires
 with-requires c κs = search needs

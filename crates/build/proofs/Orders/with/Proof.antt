@@ -1,13 +1,11 @@
 -- `build::Orders::with` meets its contract. Assumes nothing.
-use mathlib.Core.Path.{_≡_, refl, sym, ap, _∙_}
+use mathlib.Core.Path.{refl}
 use native.Mathlib.Omega.{arith}
 use Rattle.explore.proofs.Bits.{unmapped}
 use Rattle.build.proofs.Commands.{orders-with}
 use borrow.Author.Needs.{needs}
 use Rattle.build.proofs.Orders.with.Statement.{statement}
 use Rattle.build.proofs.Orders.with.Tie as tie
-use Rattle.build.proofs.Orders.with.Reads as reads
-use Rattle.build.proofs.Orders.with.Lts as lts
 
 mul-o : tie.Need-mul-o
 mul-o c = search needs

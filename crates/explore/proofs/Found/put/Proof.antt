@@ -1,7 +1,7 @@
 -- `explore::Found::put` meets its contract. Assumes nothing.
-use mathlib.Core.Path.{_≡_, refl, sym, ap, _∙_}
+use mathlib.Core.Path.{refl, ap, _∙_}
 use mathlib.Core.List.{_∷_, []}
-use lib.ListN.{length, take}
+use lib.ListN.{take}
 use native.Mathlib.Omega.{arith}
 use borrow.Author.Needs.{needs}
 use native.Mathlib.Numerals.{add-one}
@@ -10,8 +10,6 @@ use Rattle.explore.specs.States.{thread-of, threads-of}
 use Rattle.explore.proofs.Bits.{map-append, unmapped}
 use Rattle.explore.proofs.Found.put.Statement.{statement}
 use Rattle.explore.proofs.Found.put.Tie as tie
-use Rattle.explore.proofs.Found.put.Reads as reads
-use Rattle.explore.proofs.Found.put.Lts as lts
 
 mul-e : tie.Need-mul-e
 mul-e c = search needs

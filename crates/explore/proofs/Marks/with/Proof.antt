@@ -9,8 +9,6 @@ use Rattle.explore.specs.States.{count-of}
 use Rattle.explore.proofs.Bits.{ones-le, ones-set}
 use Rattle.explore.proofs.Marks.with.Statement.{statement}
 use Rattle.explore.proofs.Marks.with.Tie as tie
-use Rattle.explore.proofs.Marks.with.Reads as reads
-use Rattle.explore.proofs.Marks.with.Lts as lts
 
 element-write-self : tie.Need-element-write-self
 element-write-self c = search needs

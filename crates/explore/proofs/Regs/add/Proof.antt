@@ -1,15 +1,10 @@
 -- `explore::Regs::add` meets its contract. Assumes nothing.
-use mathlib.Core.Path.{_≡_, refl, sym, ap, _∙_}
 use native.Mathlib.Omega.{arith}
 use Rattle.explore.proofs.Bits.{unmapped}
 use Rattle.explore.proofs.Naming.{keys-length, add-old, add-full, add-new}
 use borrow.Author.Needs.{needs}
 use Rattle.explore.proofs.Regs.add.Statement.{statement}
 use Rattle.explore.proofs.Regs.add.Tie as tie
-use Rattle.explore.proofs.Regs.add.Reads as reads
-use Rattle.explore.proofs.Regs.add.Lts as lts
-use Rattle.explore.proofs.Regs.find.Reads as find-reads
-use Rattle.explore.proofs.Regs.with.Reads as with-reads
 
 find-requires : tie.Need-find-requires
 find-requires c κs = search needs

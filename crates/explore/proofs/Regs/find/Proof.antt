@@ -1,9 +1,8 @@
 -- `explore::Regs::find` meets its contract. Assumes nothing.
-use mathlib.Core.Path.{_≡_, refl, sym, ap, _∙_}
-use mathlib.Core.Logic.{_⊎_, inl, inr, ⊎-elim}
+use mathlib.Core.Path.{_≡_}
+use mathlib.Core.Logic.{_⊎_, ⊎-elim}
 use Prim.Native.Nat.{_≤_, _+_, _-_}
 use native.Mathlib.Omega.{arith}
-use borrow.Author.Needs.{needs}
 use lib.ListN.{drop}
 use Rattle.paths.specs.Registers.{index}
 use Rattle.explore.specs.Keys.{keys-of}
@@ -11,8 +10,6 @@ use Rattle.explore.proofs.Bits.{unmapped}
 use Rattle.explore.proofs.Naming.{find-hit, find-miss, find-end}
 use Rattle.explore.proofs.Regs.find.Statement.{statement}
 use Rattle.explore.proofs.Regs.find.Tie as tie
-use Rattle.explore.proofs.Regs.find.Reads as reads
-use Rattle.explore.proofs.Regs.find.Lts as lts
 
 abbrev Inv-loop : tie.InvT-loop
 Inv-loop t o self n i₀ i = (i ≤ n) × (index (t, o) (keys-of self) ≡ i + index (t, o) (drop i (keys-of self)))

@@ -1,13 +1,11 @@
 -- `explore::Regs::with` meets its contract. Assumes nothing.
-use mathlib.Core.Path.{_≡_, refl, sym, ap, _∙_}
+use mathlib.Core.Path.{refl}
 use native.Mathlib.Omega.{arith}
 use Rattle.explore.proofs.Bits.{unmapped}
 use Rattle.explore.proofs.Naming.{keys-with}
 use borrow.Author.Needs.{needs}
 use Rattle.explore.proofs.Regs.with.Statement.{statement}
 use Rattle.explore.proofs.Regs.with.Tie as tie
-use Rattle.explore.proofs.Regs.with.Reads as reads
-use Rattle.explore.proofs.Regs.with.Lts as lts
 
 mul-t7 : tie.Need-mul-t7
 mul-t7 c = search needs
