@@ -175,3 +175,10 @@ verdict-of s h e = sym (ap (λ (x : HeadItem). afterHead x (λ (g : Head). formF
 pub verdict-wrong : (s : List ℕ) (k : ℕ) → headAt s ≡ Wrong k → Fault k 0 ≡ formOf s
 unfolding formOf
 verdict-wrong s k e = sym (ap (λ (x : HeadItem). afterHead x (λ (g : Head). formFrom (length s) s g begin)) e)
+
+-- one answer alone meets the promise
+pub form-ok-one : (s : List ℕ) (a b : Bool) → FormOk s a → FormOk s b → a ≡ b
+form-ok-one s true true x y = refl
+form-ok-one s false false x y = refl
+form-ok-one s true false x y = let t = x .right refl in absurd (y .wrong refl (tableAt s) (t .0) (t .1))
+form-ok-one s false true x y = let t = y .right refl in absurd (x .wrong refl (tableAt s) (t .0) (t .1))

@@ -8,11 +8,12 @@ use mathlib.Core.List.{List, [], _∷_, _++_}
 use lib.ListN.{length, getD, drop, set, length-set, List·getD-append}
 use lib.Seq.{drop-cons, set-at}
 use Rattle.card.specs.Table.{Sit}
+use Rattle.card.specs.Run.{sit, noSit}
 use Rattle.card.specs.declared.Order.{Order}
 use Rattle.card.specs.declared.Order.the-variants.{Move, Put, Stop}
 use Rattle.card.specs.declared.RowItem.{RowItem}
 use Rattle.card.specs.declared.RowItem.the-variants.{Leads, Ends}
-use Rattle.card.specs.Decode.{cmdAt, past, afterN, afterAt, rowAt, pastRow, afterRowsN, afterRows, sitAt, sitsFrom, placesFrom, placesOf}
+use Rattle.card.specs.Decode.{cmdAt, past, afterN, afterAt, rowAt, pastRow, afterRowsN, afterRows, sitAt, sitsFrom, placesFrom, tableAt, placesOf}
 use Rattle.card.specs.Places.{noted}
 use Rattle.card.proofs.Laws.{move-facts, put-facts}
 use Rattle.card.proofs.Rows.{after-ge, no-line, row-whole}
@@ -107,6 +108,11 @@ pub sits-length : (n : ℕ) (s : List ℕ) (at : ℕ) → length (sitsFrom n s a
 unfolding sitsFrom
 sits-length zero s at = refl
 sits-length (suc n) s at = ap suc (sits-length n s (afterRows s (at + 10)))
+
+-- a situation of the table that a file reads as stands at its place
+pub table-sit : (s : List ℕ) (q : ℕ) → q < getD s 4 0 → sit (tableAt s) q ≡ sitAt s (getD (placesOf s) q 0)
+unfolding tableAt placesOf
+table-sit s q l = sit-is (getD s 4 0) s (afterAt s 5) q noSit l
 
 -- one more is noted
 append-one : (p : List ℕ) (a : ℕ) (q : List ℕ) → (p ++ (a ∷ [])) ++ q ≡ p ++ (a ∷ q)

@@ -34,16 +34,16 @@ field-ok-requires : tie.Need-field-ok-requires Inv-loop μ-loop
 field-ok-requires c κs = search needs
 
 returns : tie.Need-returns Inv-loop μ-loop
-returns c = fields-bad _ _ _ _ _ _ (c .before .before .before .loop-test .taken) (sym (c .before .field-ok .ensures) ∙ not-true _ (c .if1 .taken)) ∙ c .before .before .before .before .loop .inv .1
+returns c = fields-bad _ _ _ _ _ _ (omega arith) (sym (c .before .field-ok .ensures) ∙ not-true _ (c .if1 .taken)) ∙ c .before .before .before .before .loop .inv .1
 
 loop-less : tie.Need-loop-less Inv-loop μ-loop
 loop-less c = search needs
 
 loop-again : tie.Need-loop-again Inv-loop μ-loop
-loop-again c = (omega arith, fields-more _ _ _ _ _ _ (c .before .before .before .loop-test .taken) (sym (c .before .field-ok .ensures) ∙ not-false _ (c .if1 .left)) ∙ c .before .before .before .before .loop .inv .1)
+loop-again c = (omega arith, fields-more _ _ _ _ _ _ (omega arith) (sym (c .before .field-ok .ensures) ∙ not-false _ (c .if1 .left)) ∙ c .before .before .before .before .loop .inv .1)
 
 returns-2 : tie.Need-returns-2 Inv-loop μ-loop
-returns-2 c = fields-none _ _ _ _ _ _ (c .loop-test .left) ∙ c .before .loop .inv .1
+returns-2 c = fields-none _ _ _ _ _ _ (omega arith) ∙ c .before .loop .inv .1
 
 pub fields-ok-spec : {M : Type 1} → statement M
 fields-ok-spec =
