@@ -54,7 +54,7 @@ Reads r (put t ∷ l) = Reads r l
 
 -- ---- the sets of all situations
 
--- what is known of a set and of what flows along a row: the row's source may have empty what the row does not write
+-- what flows along a row: what may be empty before it and is not written by it
 unfoldable pub flow : ℕ → ℕ → ℕ → ℕ
 flow old x k = bitOr old (bitXor (bitOr x k) k)
 

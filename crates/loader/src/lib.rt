@@ -184,7 +184,7 @@ fn some_ask(s: &[u8], places: &[usize; 96], may: &[u64; 96]) -> bool
 }
 
 // Whether some line makes a table of right form read an empty register.
-pub fn empty_read(s: &[u8], places: &[usize; 96]) -> bool
+fn empty_read(s: &[u8], places: &[usize; 96]) -> bool
     requires { ⌜ Ready (now s) (now places) ⌝ }
     ensures { λ r. ⌜ Says (EmptyRead (tableAt (now (s .entry)))) r ⌝ }
 {
