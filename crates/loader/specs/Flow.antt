@@ -1,4 +1,5 @@
--- Which registers may be empty in which situation: a set of registers is a number, register r its bit r. Assumes nothing: these are definitions.
+-- Which registers may be empty in which situation: a set of registers is a number, register r its bit r. The inner functions'
+-- contracts speak of these; the promise of `load` is `Judged` alone. Assumes nothing: these are definitions.
 use mathlib.Core.Path.{_≡_}
 use mathlib.Core.Bool.{Bool, true, false}
 use mathlib.Core.List.{List, [], _∷_}

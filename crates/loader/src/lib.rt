@@ -32,6 +32,7 @@ fn holds(m: u64, r: usize) -> bool
     (m >> r) % 2 == 1
 }
 
+// The list of commands at a place, in short.
 fn list_at(s: &[u8], at: usize) -> Gist
     ensures { λ r. ⌜ Listed (now (s .entry)) at (r .writes) (r .reads) (r .end) ⌝ }
 {
@@ -198,6 +199,7 @@ pub struct Judgement {
     pub places: [usize; 96],
 }
 
+// Judges any bytes, for a run that needs the places too.
 pub fn judge(table: &[u8]) -> Judgement
     ensures { λ r. ⌜ Judges (now (table .entry)) (r .code) (r .places) ⌝ }
 {
