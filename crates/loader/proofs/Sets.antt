@@ -59,19 +59,16 @@ flow-grows o x k a b c n = or-grows 64 o (bitXor (bitOr x k) k) a (xor-lt 64 _ _
 
 -- ---- the targets of a list
 
+one-target : (t k r : ℕ) (l : List Cmd) → Free r l × (bitOf (bitOr k (2 ^ t)) r ≡ 0) → ((t ≡ r → ⊥) × Free r l) × (bitOf k r ≡ 0)
+one-target t k r l i =
+    let o = or-split k (2 ^ t) r (i .1) in
+    (((λ d. not-both (2 ^ t) r (o .1) (subst (λ (x : ℕ). bitOf (2 ^ t) x ≡ 1) d (bit-same t))), i .0), o .0)
+
 pub free-written : (l : List Cmd) (k r : ℕ) → bitOf (written k l) r ≡ 0 → Free r l × (bitOf k r ≡ 0)
 unfolding written
 free-written [] k r e = (tt, e)
-free-written (move t f ∷ l) k r e = one (free-written l (bitOr k (2 ^ t)) r e)
-  where
-    one : Free r l × (bitOf (bitOr k (2 ^ t)) r ≡ 0) → ((t ≡ r → ⊥) × Free r l) × (bitOf k r ≡ 0)
-    one i = let o = or-split k (2 ^ t) r (i .1) in
-        (((λ d. not-both (2 ^ t) r (o .1) (subst (λ (x : ℕ). bitOf (2 ^ t) x ≡ 1) d (bit-same t))), i .0), o .0)
-free-written (put t ∷ l) k r e = one (free-written l (bitOr k (2 ^ t)) r e)
-  where
-    one : Free r l × (bitOf (bitOr k (2 ^ t)) r ≡ 0) → ((t ≡ r → ⊥) × Free r l) × (bitOf k r ≡ 0)
-    one i = let o = or-split k (2 ^ t) r (i .1) in
-        (((λ d. not-both (2 ^ t) r (o .1) (subst (λ (x : ℕ). bitOf (2 ^ t) x ≡ 1) d (bit-same t))), i .0), o .0)
+free-written (move t f ∷ l) k r e = one-target t k r l (free-written l (bitOr k (2 ^ t)) r e)
+free-written (put t ∷ l) k r e = one-target t k r l (free-written l (bitOr k (2 ^ t)) r e)
 
 pub written-free : (l : List Cmd) (k r : ℕ) → Free r l → bitOf k r ≡ 0 → bitOf (written k l) r ≡ 0
 unfolding written
