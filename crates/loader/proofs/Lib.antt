@@ -1,4 +1,4 @@
-pub mod Bits
+pub mod Common
 pub mod Totals
 pub mod Stuck
 pub mod Passes

@@ -2,7 +2,6 @@
 -- Assumes nothing.
 use Prim.Native.Nat.{ℕ, zero, suc, _+_, _-_, _*_, _/_, _%_, _^_, _<_, _≤_}
 use native.Mathlib.Omega.{arith}
-use native.Mathlib.Nat.{zero-div}
 use native.Mathlib.Decide.{ℕ-discrete}
 use mathlib.Core.Path.{_≡_, refl, sym, ap, _∙_, subst}
 use mathlib.Core.Logic.{_⊎_, inl, inr}
@@ -15,8 +14,9 @@ use lib.Count.{ones}
 use Rattle.card.specs.Table.{Row, Table}
 use Rattle.card.specs.Run.{In, sit}
 use Rattle.loader.specs.Flow.{bitOf, written, flow, total, startSet, Way, here, go, Grounded, Spread, Closed, Sub, Words, Pass, Round, Sweep, Settled}
-use Rattle.loader.proofs.Bits.{flow-keeps, flow-adds, flow-only, flow-fits}
-use Rattle.loader.proofs.Totals.{flow-grows, total-set, total-le}
+use Rattle.loader.proofs.Common.{bit-zero}
+use Rattle.loader.proofs.Sets.{flow-keeps, flow-adds, flow-only, flow-fits, flow-grows}
+use Rattle.loader.proofs.Totals.{total-set, total-le}
 
 -- a longer allowance
 way-more : {T : Table} {start r k q : ℕ} (k′ : ℕ) → k ≤ k′ → Way T start r k q → Way T start r k′ q
@@ -114,10 +114,6 @@ zeros : (n i : ℕ) → _≡_ {A = ℕ} (getD (replicate n 0) i 0) 0
 zeros zero i = refl
 zeros (suc n) zero = refl
 zeros (suc n) (suc i) = zeros n i
-
-bit-zero : (r : ℕ) → bitOf 0 r ≡ 0
-unfolding bitOf
-bit-zero r = rw (zero-div)
 
 under : {may : List ℕ} → Words may → total may ≤ 6144
 under {may} w = omega (arith, total-le may (w .small), w .long)

@@ -16,8 +16,8 @@ use Rattle.card.specs.Run.{In, sit}
 use Rattle.card.specs.Decode.{rowsAt, tableAt}
 use Rattle.loader.specs.Flow.{bitOf, total, Spread, Closed, Sub, Words, Pass, Flowed, Round, Sweep, Ready}
 use Rattle.loader.proofs.Passes.{no-flag}
-use Rattle.loader.proofs.Sets.{or-one, or-right}
-use Rattle.loader.proofs.Totals.{or-grows, total-set}
+use Rattle.loader.proofs.Common.{or-one, or-right, or-grows}
+use Rattle.loader.proofs.Totals.{total-set}
 use Rattle.loader.proofs.Situated.{rows-here, count-most, no-row}
 
 -- the situations before q have been asked

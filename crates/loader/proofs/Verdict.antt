@@ -11,7 +11,8 @@ use Rattle.card.specs.Run.{In, sit, noSit, rowIn}
 use Rattle.loader.specs.Flow.{EmptyRead, Says, Reads, bitOf, written, startSet, Way, Settled, Loud}
 use Rattle.loader.specs.Flow as F
 use Rattle.loader.proofs.Stuck.{Free, Route, here, go, never-stuck, found-end, found-row}
-use Rattle.loader.proofs.Sets.{start-of, of-start, free-written, written-free, bit-zero}
+use Rattle.loader.proofs.Common.{bit-zero}
+use Rattle.loader.proofs.Sets.{start-of, of-start, free-written, written-free}
 use Rattle.loader.proofs.Shape.{not-in, sit-of, leads-in, next-in, row-byte, in-table}
 
 -- SETs read nothing

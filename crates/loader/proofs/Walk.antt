@@ -18,7 +18,8 @@ use Rattle.card.specs.declared.RowItem.{RowItem}
 use Rattle.card.specs.declared.RowItem.the-variants.{Leads, Ends}
 use Rattle.card.proofs.Rows.{rows-step}
 use Rattle.loader.specs.Flow.{Says, Reads, bitOf, asked, RowAsks, FieldAsks}
-use Rattle.loader.proofs.Sets.{not-both, bit-in, bit-zero, some-bit, and-bits, and-bit, asked-reads, reads-asked}
+use Rattle.loader.proofs.Common.{not-both, bit-in, bit-zero, and-bits, and-bit}
+use Rattle.loader.proofs.Sets.{asked-reads, reads-asked}
 use Rattle.loader.proofs.Shape.{not-in}
 
 -- ---- rows

@@ -1,4 +1,5 @@
--- Which registers may be empty in which situation: a set of registers is a number, register r its bit r. Assumes nothing: these are definitions.
+-- Which registers may be empty in which situation: a set of registers is a number, register r its bit r. The inner functions'
+-- contracts speak of these; the promise of `load` is `Judged` alone. Assumes nothing: these are definitions.
 use mathlib.Core.Path.{_≡_}
 use mathlib.Core.Bool.{Bool, true, false}
 use mathlib.Core.List.{List, [], _∷_}
@@ -54,7 +55,7 @@ Reads r (put t ∷ l) = Reads r l
 
 -- ---- the sets of all situations
 
--- what is known of a set and of what flows along a row: the row's source may have empty what the row does not write
+-- what flows along a row: what may be empty before it and is not written by it
 unfoldable pub flow : ℕ → ℕ → ℕ → ℕ
 flow old x k = bitOr old (bitXor (bitOr x k) k)
 

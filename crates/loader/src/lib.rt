@@ -32,6 +32,7 @@ fn holds(m: u64, r: usize) -> bool
     (m >> r) % 2 == 1
 }
 
+// The list of commands at a place, in short.
 fn list_at(s: &[u8], at: usize) -> Gist
     ensures { λ r. ⌜ Listed (now (s .entry)) at (r .writes) (r .reads) (r .end) ⌝ }
 {
@@ -184,7 +185,7 @@ fn some_ask(s: &[u8], places: &[usize; 96], may: &[u64; 96]) -> bool
 }
 
 // Whether some line makes a table of right form read an empty register.
-pub fn empty_read(s: &[u8], places: &[usize; 96]) -> bool
+fn empty_read(s: &[u8], places: &[usize; 96]) -> bool
     requires { ⌜ Ready (now s) (now places) ⌝ }
     ensures { λ r. ⌜ Says (EmptyRead (tableAt (now (s .entry)))) r ⌝ }
 {
@@ -198,6 +199,7 @@ pub struct Judgement {
     pub places: [usize; 96],
 }
 
+// Judges any bytes, for a run that needs the places too.
 pub fn judge(table: &[u8]) -> Judgement
     ensures { λ r. ⌜ Judges (now (table .entry)) (r .code) (r .places) ⌝ }
 {

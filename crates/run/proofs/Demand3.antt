@@ -9,7 +9,7 @@ use mathlib.Core.List.{List, [], _∷_, map}
 use lib.ListN.{length, getD, set, replicate}
 use lib.IntN.{ℤ, pos, negsuc}
 use lib.Dec.{leb, eqb}
-use borrow.Author.Tests.{leb-true, leb-false}
+use borrow.Author.Tests.{leb-true, leb-false, eqb-false}
 use Rattle.ground.specs.Pick.{pick}
 use Rattle.card.specs.Table.{Cmd, move, put, Row, Sit, Table, Upward, bytesOf, Formed}
 use Rattle.card.specs.Run.{Bank, absent, reg, empties, Out, ok, stuck, moved, apply, State, at, lost, arrive, sit, noSit, rowFor, rowIn, step, run, begun, over, In, hd, tl, Stuck, Line, Told, refused, placeAt, told, ends, tells}
@@ -17,6 +17,8 @@ use Rattle.card.specs.Judged.{Judged, taken, malformed, emptyRead}
 use Rattle.loader.proofs.Shape.{in-table, leads-in, next-in, sit-of, not-in}
 use Rattle.loader.proofs.Judging.{not-stuck}
 use Rattle.run.specs.Within.{Within, AllWithin}
+use Rattle.run.specs.Sound.{Sound}
+use Rattle.run.proofs.Filling.{map-length}
 use Rattle.run.specs.Runs.{Runs, unfit, long, fit}
 
 -- ---- every byte has a row in every situation, and every row leads to a situation
@@ -51,10 +53,6 @@ module _ (T : Table) (formed : Formed T) where
       by (inr e) = absurd (not-in (subst (λ (s : Sit). In x (s .rows)) e i))
 
 -- ---- no register is read before it is written
-
--- a taken table: no line gets stuck, on the way or at its end
-pub never-stuck : {s : List ℕ} → Judged s 0 → (T : Table) → Formed T → s ≡ bytesOf T → (w : List ℕ) → Line w → Stuck T w → ⊥
-never-stuck j T f e w l k = not-stuck j T f e w l k
 
 -- a table of right form that is refused: some line reads an empty register
 pub reads-empty : {s : List ℕ} → Judged s 14 → (T : Table) × (Formed T × ((s ≡ bytesOf T) × ((w : List ℕ) × (Line w × Stuck T w))))
@@ -160,3 +158,36 @@ pub result-within : {s w : List ℕ} {t : Told} → Runs s w t → AllWithin (le
 result-within {s} {w} (unfit c j n) = empty-within (length w) 8
 result-within {s} {w} (long j l) = empty-within (length w) 8
 result-within {s} {w} (fit j l T f e) = places-within T w
+
+-- ---- there are eight
+
+eight-of : (t : Bool) (x : Told) → (t ≡ false → length (x .places) ≡ 8) → length (pick t (refused 16) x .places) ≡ 8
+unfolding pick
+eight-of true x h = refl
+eight-of false x h = h refl
+
+module _ (T : Table) (formed : Formed T) where
+  fields-eight : (q : ℕ) → eqb (sit T q .answer) 255 ≡ false → length (sit T q .fields) ≡ 8
+  fields-eight q n = by (sit-of T formed q)
+    where
+      by : (q < length (T .sits)) ⊎ (sit T q ≡ noSit) → length (sit T q .fields) ≡ 8
+      by (inl h) = in-table T formed q h .eight
+      by (inr e) = absurd (eqb-false (sit T q .answer) 255 n (ap (λ (x : Sit). x .answer) e))
+
+  ends-eight : (x : State) → length (ends T x .places) ≡ 8
+  ends-eight (at q bank) =
+      eight-of (eqb (sit T q .answer) 255) _ (λ n. map-length (placeAt bank) (sit T q .fields) ∙ fields-eight q n)
+  ends-eight lost = refl
+
+  pub places-eight : (w : List ℕ) → length (tells T w .places) ≡ 8
+  places-eight w = ends-eight (over T w)
+
+-- ---- demand 3
+
+pub taken-is-sound : {s : List ℕ} → Judged s 0 → (T : Table) → Formed T → s ≡ bytesOf T → Sound T
+taken-is-sound j T f e = record {
+  rows = row-for-each-byte T f;
+  leads = row-leads T f;
+  reads = not-stuck j T f e;
+  places = λ w. (places-eight T f w, places-within T w);
+}

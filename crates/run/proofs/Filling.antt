@@ -28,7 +28,7 @@ map-at f [] j h = absurd (omega arith)
 map-at f (x ∷ l) zero h = refl
 map-at f (x ∷ l) (suc j) h = map-at f l j (omega arith)
 
-map-length : (f : ℕ → ℤ) (l : List ℕ) → length (map f l) ≡ length l
+pub map-length : (f : ℕ → ℤ) (l : List ℕ) → length (map f l) ≡ length l
 map-length f [] = refl
 map-length f (x ∷ l) = ap suc (map-length f l)
 

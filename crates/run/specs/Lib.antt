@@ -1,3 +1,4 @@
 pub mod Carry
 pub mod Runs
 pub mod Within
+pub mod Sound

@@ -143,7 +143,7 @@ fn refusal(code: u8) -> Ran
     }
 }
 
-// What a table tells of a line that does not get stuck in it.
+// What a table tells of a line. That the table is taken and the places are those of its situations `judge` shows.
 pub fn run_taken(s: &[u8], places: &[usize; 96], line: &[u8]) -> Ran
     requires { ⌜ Rides (now s) (now places) (now line) ⌝ }
     ensures { λ r. ⌜ toldOf r ≡ tells (tableAt (now (s .entry))) (now (line .entry)) ⌝ }
