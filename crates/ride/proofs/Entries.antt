@@ -13,7 +13,8 @@ use Rattle.card.specs.declared.Order.the-variants.{Move, Put, Stop}
 use Rattle.card.specs.declared.RowItem.{RowItem}
 use Rattle.card.specs.declared.RowItem.the-variants.{Leads, Ends}
 use Rattle.card.proofs.Laws.{cmds-step}
-use Rattle.ride.specs.Image.{allSets, listKind, standing, entry, rowEntry, entryAt}
+use Rattle.ride.specs.Need.{Alone}
+use Rattle.ride.specs.Image.{allSets, listKind, points, entry, rowEntry, entryAt}
 
 -- ---- the kind of the list at a place
 
@@ -27,41 +28,62 @@ module _ (s : List ℕ) (i : ℕ) where
   pub all-stop : cmdAt s i ≡ Stop → true ≡ allSets (cmdsAt s i)
   all-stop e = sym (ap allSets (cmds-step s i Stop e))
 
-  pub kind-stop : cmdAt s i ≡ Stop → 0 ≡ listKind (cmdsAt s i)
-  kind-stop e = sym (ap listKind (cmds-step s i Stop e))
+  pub alone-stop : cmdAt s i ≡ Stop → Alone s i true
+  alone-stop e = record { none = λ _. cmds-step s i Stop e; some = λ z. let y : _≡_ {A = ℕ} 0 1 = cc in absurd (omega arith) }
 
-  pub kind-move : (t f : ℕ) → cmdAt s i ≡ Move t f → 2 ≡ listKind (cmdsAt s i)
-  unfolding pick
-  kind-move t f e = sym (ap listKind (cmds-step s i (Move t f) e))
+  pub alone-move : (t f : ℕ) → cmdAt s i ≡ Move t f → Alone s i false
+  alone-move t f e = record {
+    none = λ z. let y : _≡_ {A = ℕ} 0 1 = cc in absurd (omega arith);
+    some = λ _ n. let h = cmds-step s i (Move t f) e in let y : _≡_ {A = ℕ} 0 1 = cc in omega arith;
+  }
 
-  pub kind-put : (t : ℕ) → cmdAt s i ≡ Put t → (b a : Bool) → a ≡ allSets (cmdsAt s i) → a ≡ b → pick b 1 2 ≡ listKind (cmdsAt s i)
-  kind-put t e b a h k =
-      ap (λ (x : Bool). pick x 1 2) (sym k ∙ h ∙ ap allSets (cmds-step s i (Put t) e)) ∙ sym (ap listKind (cmds-step s i (Put t) e))
+  pub alone-put : (t : ℕ) → cmdAt s i ≡ Put t → Alone s i false
+  alone-put t e = record {
+    none = λ z. let y : _≡_ {A = ℕ} 0 1 = cc in absurd (omega arith);
+    some = λ _ n. let h = cmds-step s i (Put t) e in let y : _≡_ {A = ℕ} 0 1 = cc in omega arith;
+  }
 
-  pub kind-sets : (t : ℕ) → cmdAt s i ≡ Put t → (a : Bool) → a ≡ allSets (cmdsAt s i) → a ≡ true → 1 ≡ listKind (cmdsAt s i)
-  unfolding pick
-  kind-sets t e a h k = kind-put t e true a h k
+  -- the kind of the list here, and what its entry points to
+  abbrev Sorted : ℕ → ℕ → Type 0
+  Sorted k n = (k ≡ listKind (cmdsAt s i)) × (n ≡ points (cmdsAt s i) i)
 
-  pub kind-mixed : (t : ℕ) → cmdAt s i ≡ Put t → (a : Bool) → a ≡ allSets (cmdsAt s i) → a ≡ false → 2 ≡ listKind (cmdsAt s i)
-  unfolding pick
-  kind-mixed t e a h k = kind-put t e false a h k
+  sorted : (l : List Cmd) → cmdsAt s i ≡ l → (k n : ℕ) → k ≡ listKind l → n ≡ points l i → Sorted k n
+  sorted l e k n f g = (f ∙ sym (ap listKind e), g ∙ sym (ap (λ (x : List Cmd). points x i) e))
 
-kind-of-test : (b : Bool) → (1 ≤ pick b 1 2) × (pick b 1 2 ≤ 2)
+  pub sort-stop : cmdAt s i ≡ Stop → Sorted 0 0
+  sort-stop e = sorted [] (cmds-step s i Stop e) 0 0 refl refl
+
+  pub sort-move : (t f : ℕ) → cmdAt s i ≡ Move t f → Sorted 2 i
+  sort-move t f e = sorted (move t f ∷ cmdsAt s (i + 3)) (cmds-step s i (Move t f) e) 2 i refl refl
+
+  module _ (t : ℕ) (e : cmdAt s i ≡ Put t) where
+    pub sort-one : {b : Bool} → Alone s (i + 2) b → b ≡ true → Sorted 3 t
+    sort-one a z = sorted (put t ∷ []) (cmds-step s i (Put t) e ∙ ap (λ (l : List Cmd). put t ∷ l) (a .none z)) 3 t refl refl
+
+    sort-more : (l : List Cmd) → cmdsAt s (i + 2) ≡ l → (l ≡ [] → ⊥) → (b : Bool) → b ≡ allSets (cmdsAt s (i + 2)) → Sorted (pick b 1 2) i
+    sort-more [] h n b k = absurd (n refl)
+    sort-more (c ∷ l) h n b k =
+        sorted (put t ∷ (c ∷ l)) (cmds-step s i (Put t) e ∙ ap (λ (x : List Cmd). put t ∷ x) h) (pick b 1 2) i
+        (ap (λ (x : Bool). pick x 1 2) (k ∙ ap allSets h)) refl
+
+    pub sort-sets : {b a : Bool} → Alone s (i + 2) b → b ≡ false → a ≡ allSets (cmdsAt s (i + 2)) → a ≡ true → Sorted 1 i
+    unfolding pick
+    sort-sets o z h k = sort-more (cmdsAt s (i + 2)) refl (o .some z) true (sym k ∙ h)
+
+    pub sort-mixed : {b a : Bool} → Alone s (i + 2) b → b ≡ false → a ≡ allSets (cmdsAt s (i + 2)) → a ≡ false → Sorted 2 i
+    unfolding pick
+    sort-mixed o z h k = sort-more (cmdsAt s (i + 2)) refl (o .some z) false (sym k ∙ h)
+
+kind-of-test : (b : Bool) → pick b 1 2 ≤ 2
 unfolding pick
-kind-of-test true = (omega arith, omega arith)
-kind-of-test false = (omega arith, omega arith)
+kind-of-test true = omega arith
+kind-of-test false = omega arith
 
-pub kind-few : (l : List Cmd) → listKind l ≤ 2
+pub kind-few : (l : List Cmd) → listKind l ≤ 3
 kind-few [] = omega arith
-kind-few (c ∷ l) = kind-of-test (allSets (c ∷ l)) .1
-
-pub kind-none : (l : List Cmd) → listKind l ≡ 0 → l ≡ []
-kind-none [] e = refl
-kind-none (c ∷ l) e = let h = kind-of-test (allSets (c ∷ l)) .0 in absurd (omega arith)
-
-pub stands : (l : List Cmd) (at : ℕ) → (listKind l ≡ 0 → ⊥) → standing l at ≡ at
-stands [] at n = absurd (n refl)
-stands (c ∷ l) at n = refl
+kind-few (move t f ∷ l) = omega arith
+kind-few (put t ∷ []) = omega arith
+kind-few (put t ∷ (c ∷ l)) = let h = kind-of-test (allSets (c ∷ l)) in omega arith
 
 -- ---- the entry of the row at a place
 
@@ -70,15 +92,11 @@ module _ (s : List ℕ) (at : ℕ) where
   unfolding entryAt
   entry-ends e = sym (ap (λ (x : RowItem). rowEntry x (cmdsAt s (at + 4)) (at + 4)) e)
 
-  module _ (lo hi next : ℕ) (e : rowAt s at ≡ Leads lo hi next) where
-    pub entry-leads : entry next (listKind (cmdsAt s (at + 4))) (standing (cmdsAt s (at + 4)) (at + 4)) ≡ entryAt s at
-    unfolding entryAt
-    entry-leads = sym (ap (λ (x : RowItem). rowEntry x (cmdsAt s (at + 4)) (at + 4)) e)
+  pub entry-leads : (lo hi next : ℕ) → rowAt s at ≡ Leads lo hi next
+      → entry next (listKind (cmdsAt s (at + 4))) (points (cmdsAt s (at + 4)) (at + 4)) ≡ entryAt s at
+  unfolding entryAt
+  entry-leads lo hi next e = sym (ap (λ (x : RowItem). rowEntry x (cmdsAt s (at + 4)) (at + 4)) e)
 
-    pub entry-plain : (k : ℕ) → k ≡ listKind (cmdsAt s (at + 4)) → k ≡ 0 → entry next 0 0 ≡ entryAt s at
-    entry-plain k h z =
-        ap (λ (l : List Cmd). entry next (listKind l) (standing l (at + 4))) (sym (kind-none (cmdsAt s (at + 4)) (sym h ∙ z))) ∙ entry-leads
-
-    pub entry-list : (k : ℕ) → k ≡ listKind (cmdsAt s (at + 4)) → (k ≡ 0 → ⊥) → entry next k (at + 4) ≡ entryAt s at
-    entry-list k h n =
-        ap₂ (entry next) h (sym (stands (cmdsAt s (at + 4)) (at + 4) (λ z. n (h ∙ z)))) ∙ entry-leads
+  pub entry-sorted : (lo hi next : ℕ) → rowAt s at ≡ Leads lo hi next → (k n : ℕ) → k ≡ listKind (cmdsAt s (at + 4)) → n ≡ points (cmdsAt s (at + 4)) (at + 4)
+      → entry next k n ≡ entryAt s at
+  entry-sorted lo hi next e k n f g = ap₂ (entry next) f g ∙ entry-leads lo hi next e

@@ -15,13 +15,16 @@ use Rattle.card.specs.Decode.{cmdAt, cmdsAt, afterAt, rowAt, rowsAt}
 use Rattle.card.specs.declared.RowItem.{RowItem}
 use Rattle.card.specs.declared.RowItem.the-variants.{Leads, Ends}
 use Rattle.card.proofs.Common.{lt-or-le}
-use Rattle.card.proofs.Laws.{at-end}
+use Rattle.card.specs.declared.Order.{Order}
+use Rattle.card.specs.declared.Order.the-variants.{Move, Put, Stop}
+use Rattle.card.proofs.Laws.{at-end, cmds-step, put-facts}
 use Rattle.card.proofs.Rows.{row-whole, no-line, row-ends, row-here, row-later}
 use Rattle.run.proofs.Carrying.{no-cmds}
-use Rattle.ride.specs.Image.{nextOf, kindOf, listOf, entry, allSets, listKind, standing, spotAt, entryAt}
+use Rattle.ride.specs.Image.{nextOf, kindOf, listOf, entry, allSets, listKind, points, spotAt, entryAt}
 use Rattle.ride.specs.Ride.{onlySets, orders, listless}
 use Rattle.ride.proofs.Spots.{after-past, spot-ends, spot-here, spot-later}
 use Rattle.ride.proofs.Entries.{entry-ends, entry-leads}
+use Rattle.ride.proofs.Obeying.{one-listed, one-ordered, list-listed, sets-ordered, all-ordered}
 use Rattle.ride.proofs.Riding.{stay-orders, stay-list}
 
 -- ---- SETs only
@@ -43,6 +46,19 @@ list-inside s at c l e = by (lt-or-le at (length s))
     by : (at < length s) ⊎ (length s ≤ at) → at < length s
     by (inl h) = h
     by (inr h) = let f = no-cmds s at (at-end s at h) in let z : _≡_ {A = ℕ} 0 1 = cc in absurd (omega arith)
+
+-- the register of the first SET of a list
+first-below : (s : List ℕ) (at t : ℕ) (l : List Cmd) → cmdsAt s at ≡ put t ∷ l → t < 64
+first-below s at t l e = by (cmdAt s at) refl
+  where
+    by : (o : Order) → cmdAt s at ≡ o → t < 64
+    by (Move u f) h = let k = cmds-step s at (Move u f) h in let y : _≡_ {A = ℕ} 0 1 = cc in absurd (omega arith)
+    by (Put u) h =
+        let k = cmds-step s at (Put u) h in
+        let y : t ≡ u = cc in
+        let f = put-facts s at u h in
+        omega arith
+    by Stop h = let k = cmds-step s at Stop h in let y : _≡_ {A = ℕ} 0 1 = cc in absurd (omega arith)
 
 -- ---- the numbers of an entry come out of their bits
 
@@ -67,55 +83,65 @@ pub record SaysRow (s : List ℕ) (e : ℕ) (x : Row) : Type 0 where
   pub listed : listless s e ≡ false
 
 module _ (s : List ℕ) (next at : ℕ) (small : next < 128) (low : at < 8388608) where
-  module _ (c : Cmd) (l : List Cmd) (k : ℕ) (few : k < 4) (some : k ≡ 0 → ⊥) (e : cmdsAt s at ≡ c ∷ l) where
-    not-none : kindOf (entry next k at) ≡ 0 → ⊥
-    not-none z = some (sym (entry-kind next k at few) ∙ z)
+  abbrev Says : ℕ → List Cmd → Type 0
+  Says e l = SaysRow s e (record { lo = 0; hi = 0; next = next; cmds = l })
 
-    is-listed : listless s (entry next k at) ≡ false
-    unfolding pick listless
-    is-listed =
+  -- a list, of kind 1 or 2
+  module _ (c : Cmd) (l : List Cmd) (e : cmdsAt s at ≡ c ∷ l) where
+    listed-at : (k : ℕ) → k < 3 → (k ≡ 0 → ⊥) → listless s (entry next k at) ≡ false
+    listed-at k few some =
         let i = list-inside s at c l e in
-        ap (λ (b : Bool). pick b false (leb (length s) (listOf (entry next k at)))) (ne-eqb (kindOf (entry next k at)) 0 not-none)
-        ∙ lt-leb (length s) (listOf (entry next k at)) (omega (arith, entry-at next k at few low))
+        let h = entry-kind next k at (omega arith) in
+        list-listed s (entry next k at) (λ z. some (sym h ∙ z)) (λ z. omega arith) false
+        (lt-leb (length s) (listOf (entry next k at)) (omega (arith, entry-at next k at (omega arith) low)))
 
-    has-orders : (b : Bool) → eqb (kindOf (entry next k at)) 1 ≡ b → orders s (entry next k at) ≡ pick b (onlySets (cmdsAt s at)) (cmdsAt s at)
-    unfolding pick orders
-    has-orders b h =
-        ap (λ (x : Bool). pick x [] (pick (eqb (kindOf (entry next k at)) 1) (onlySets (cmdsAt s (listOf (entry next k at)))) (cmdsAt s (listOf (entry next k at)))))
-        (ne-eqb (kindOf (entry next k at)) 0 not-none)
-        ∙ ap₂ (λ (x : Bool) (n : ℕ). pick x (onlySets (cmdsAt s n)) (cmdsAt s n)) h (entry-at next k at few low)
+    says-sets : allSets (c ∷ l) ≡ true → Says (entry next 1 at) (c ∷ l)
+    says-sets h = record {
+      next = entry-next next 1 at small;
+      orders =
+          let k = entry-kind next 1 at (omega arith) in
+          sets-ordered s (entry next 1 at) (λ z. omega arith) (λ z. omega arith) k
+          ∙ ap (λ (n : ℕ). onlySets (cmdsAt s n)) (entry-at next 1 at (omega arith) low) ∙ ap onlySets e ∙ all-whole (c ∷ l) h;
+      listed = listed-at 1 (omega arith) (λ z. omega arith);
+    }
 
-  abbrev says : List Cmd → Type 0
-  says l = SaysRow s (entry next (listKind l) (standing l at)) (record { lo = 0; hi = 0; next = next; cmds = l })
+    says-any : Says (entry next 2 at) (c ∷ l)
+    says-any = record {
+      next = entry-next next 2 at small;
+      orders =
+          let k = entry-kind next 2 at (omega arith) in
+          all-ordered s (entry next 2 at) (λ z. omega arith) (λ z. omega arith) (λ z. omega arith)
+          ∙ ap (cmdsAt s) (entry-at next 2 at (omega arith) low) ∙ e;
+      listed = listed-at 2 (omega arith) (λ z. omega arith);
+    }
 
-  by-kind : (c : Cmd) (l : List Cmd) → cmdsAt s at ≡ c ∷ l → (b : Bool) → allSets (c ∷ l) ≡ b
-      → SaysRow s (entry next (pick b 1 2) at) (record { lo = 0; hi = 0; next = next; cmds = c ∷ l })
-  unfolding pick
-  by-kind c l e true h = record {
-    next = entry-next next 1 at small;
+    says-either : (b : Bool) → allSets (c ∷ l) ≡ b → Says (entry next (pick b 1 2) at) (c ∷ l)
+    unfolding pick
+    says-either true h = says-sets h
+    says-either false h = says-any
+
+  -- one SET alone: its register is below 64
+  says-one : (t : ℕ) → t < 64 → Says (entry next 3 t) (put t ∷ [])
+  says-one t h = record {
+    next = entry-next next 3 t small;
     orders =
-        has-orders c l 1 (omega arith) (λ z. omega arith) e true (eq-eqb (kindOf (entry next 1 at)) 1 (entry-kind next 1 at (omega arith)))
-        ∙ ap onlySets e ∙ all-whole (c ∷ l) h;
-    listed = is-listed c l 1 (omega arith) (λ z. omega arith) e;
-  }
-  by-kind c l e false h = record {
-    next = entry-next next 2 at small;
-    orders =
-        has-orders c l 2 (omega arith) (λ z. omega arith) e false
-        (ne-eqb (kindOf (entry next 2 at)) 1 (λ z. let k = entry-kind next 2 at (omega arith) in omega arith))
-        ∙ e;
-    listed = is-listed c l 2 (omega arith) (λ z. omega arith) e;
+        let k = entry-kind next 3 t (omega arith) in
+        one-ordered s (entry next 3 t) (λ z. omega arith) k
+        ∙ ap (λ (n : ℕ). put n ∷ []) (let a = entry-at next 3 t (omega arith) (omega arith) in omega arith);
+    listed = one-listed s (entry next 3 t) (λ z. let k = entry-kind next 3 t (omega arith) in omega arith) (entry-kind next 3 t (omega arith));
   }
 
   plain : entry next 0 0 ≡ next
   unfolding entry
   plain = omega arith
 
-  pub says-list : (l : List Cmd) → cmdsAt s at ≡ l → says l
+  pub says-list : (l : List Cmd) → cmdsAt s at ≡ l → Says (entry next (listKind l) (points l at)) l
   says-list [] e =
-      subst (λ (n : ℕ). SaysRow s n (record { lo = 0; hi = 0; next = next; cmds = [] })) (sym plain)
+      subst (λ (n : ℕ). Says n []) (sym plain)
       (record { next = omega arith; orders = stay-orders s next small; listed = stay-list s next small })
-  says-list (c ∷ l) e = by-kind c l e (allSets (c ∷ l)) refl
+  says-list (move t f ∷ l) e = says-any (move t f) l e
+  says-list (put t ∷ []) e = says-one t (first-below s at t [] e)
+  says-list (put t ∷ (c ∷ l)) e = says-either (put t) (c ∷ l) e (allSets (c ∷ l)) refl
 
 -- ---- the entry of a byte's row
 

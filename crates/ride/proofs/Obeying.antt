@@ -1,7 +1,7 @@
 -- The commands of an entry carried out: SETs alone, a whole list, and what an entry asks for. Assumes nothing.
-use Prim.Native.Nat.{ℕ, zero, suc, _+_, _<_, _≤_}
+use Prim.Native.Nat.{ℕ, zero, suc, _+_, _%_, _<_, _≤_}
 use native.Mathlib.Omega.{arith}
-use mathlib.Core.Path.{_≡_, refl, sym, ap, _∙_, subst}
+use mathlib.Core.Path.{_≡_, refl, sym, ap, ap₂, _∙_, subst}
 use mathlib.Core.Bool.{Bool, true, false}
 use mathlib.Core.List.{List, [], _∷_}
 use lib.ListN.{length, set}
@@ -40,51 +40,80 @@ module _ (s : List ℕ) (i p : ℕ) (old cur : Bank) where
 
 -- ---- an entry
 
+module _ (s : List ℕ) (e : ℕ) where
+  pub listless-is : (a b c : Bool) → eqb (kindOf e) 0 ≡ a → eqb (kindOf e) 3 ≡ b → leb (length s) (listOf e) ≡ c → listless s e ≡ pick a false (pick b false c)
+  unfolding listless
+  listless-is a b c f g h = ap₂ (λ (x y : Bool). pick x false y) f (ap₂ (λ (x y : Bool). pick x false y) g h)
+
+  pub orders-are : (a b c : Bool) → eqb (kindOf e) 0 ≡ a → eqb (kindOf e) 3 ≡ b → eqb (kindOf e) 1 ≡ c
+      → orders s e ≡ pick a [] (pick b (put (listOf e % 64) ∷ []) (pick c (onlySets (cmdsAt s (listOf e))) (cmdsAt s (listOf e))))
+  unfolding orders
+  orders-are a b c f g h =
+      ap₂ (λ (x : Bool) (y : List Cmd). pick x [] y) f
+      (ap₂ (λ (x : Bool) (y : List Cmd). pick x (put (listOf e % 64) ∷ []) y) g
+      (ap (λ (x : Bool). pick x (onlySets (cmdsAt s (listOf e))) (cmdsAt s (listOf e))) h))
+
+  -- no commands
+  module _ (k : kindOf e ≡ 0) where
+    pub none-listed : listless s e ≡ false
+    unfolding pick
+    none-listed = listless-is true (eqb (kindOf e) 3) (leb (length s) (listOf e)) (eq-eqb (kindOf e) 0 k) refl refl
+
+    pub none-ordered : orders s e ≡ []
+    unfolding pick
+    none-ordered = orders-are true (eqb (kindOf e) 3) (eqb (kindOf e) 1) (eq-eqb (kindOf e) 0 k) refl refl
+
+  module _ (k : kindOf e ≡ 0 → ⊥) where
+    -- one SET alone
+    module _ (h : kindOf e ≡ 3) where
+      pub one-listed : listless s e ≡ false
+      unfolding pick
+      one-listed = listless-is false true (leb (length s) (listOf e)) (ne-eqb (kindOf e) 0 k) (eq-eqb (kindOf e) 3 h) refl
+
+      pub one-ordered : orders s e ≡ put (listOf e % 64) ∷ []
+      unfolding pick
+      one-ordered = orders-are false true (eqb (kindOf e) 1) (ne-eqb (kindOf e) 0 k) (eq-eqb (kindOf e) 3 h) refl
+
+    -- a list
+    module _ (h : kindOf e ≡ 3 → ⊥) where
+      pub list-listed : (b : Bool) → leb (length s) (listOf e) ≡ b → listless s e ≡ b
+      unfolding pick
+      list-listed b l = listless-is false false b (ne-eqb (kindOf e) 0 k) (ne-eqb (kindOf e) 3 h) l
+
+      pub sets-ordered : kindOf e ≡ 1 → orders s e ≡ onlySets (cmdsAt s (listOf e))
+      unfolding pick
+      sets-ordered z = orders-are false false true (ne-eqb (kindOf e) 0 k) (ne-eqb (kindOf e) 3 h) (eq-eqb (kindOf e) 1 z)
+
+      pub all-ordered : (kindOf e ≡ 1 → ⊥) → orders s e ≡ cmdsAt s (listOf e)
+      unfolding pick
+      all-ordered z = orders-are false false false (ne-eqb (kindOf e) 0 k) (ne-eqb (kindOf e) 3 h) (ne-eqb (kindOf e) 1 z)
+
 module _ (s : List ℕ) (e p : ℕ) (old : Bank) where
-  pub obeyed-none : kindOf e ≡ 0 → Obeyed s e p old old true
-  unfolding pick orders listless carry
-  obeyed-none k = record {
-    done = λ _. (
-      ap (λ (b : Bool). pick b false (leb (length s) (listOf e))) (eq-eqb (kindOf e) 0 k),
-      sym (ap (λ (b : Bool). carry (pick b [] (pick (eqb (kindOf e) 1) (onlySets (cmdsAt s (listOf e))) (cmdsAt s (listOf e)))) p old old) (eq-eqb (kindOf e) 0 k)),
-    );
+  is-done : {new : Bank} → listless s e ≡ false → (l : List Cmd) → orders s e ≡ l → new ≡ carry l p old old → Obeyed s e p old new true
+  is-done h l o n = record {
+    done = λ _. (h, n ∙ sym (ap (λ (x : List Cmd). carry x p old old) o));
     past = λ z. let y : _≡_ {A = ℕ} 0 1 = cc in absurd (omega arith);
   }
 
+  pub obeyed-none : kindOf e ≡ 0 → Obeyed s e p old old true
+  unfolding carry
+  obeyed-none k = is-done (none-listed s e k) [] (none-ordered s e k) refl
+
   module _ (k : kindOf e ≡ 0 → ⊥) where
-    past-is : (b : Bool) → leb (length s) (listOf e) ≡ b → listless s e ≡ b
-    unfolding pick listless
-    past-is b h = ap (λ (x : Bool). pick x false (leb (length s) (listOf e))) (ne-eqb (kindOf e) 0 k) ∙ h
+    pub obeyed-one : kindOf e ≡ 3 → Obeyed s e p old (set old (listOf e % 64) (pos p)) true
+    unfolding carry
+    obeyed-one h = is-done (one-listed s e k h) (put (listOf e % 64) ∷ []) (one-ordered s e k h) refl
 
-    orders-are : (b : Bool) → eqb (kindOf e) 1 ≡ b → orders s e ≡ pick b (onlySets (cmdsAt s (listOf e))) (cmdsAt s (listOf e))
-    unfolding pick orders
-    orders-are b h =
-        ap (λ (x : Bool). pick x [] (pick (eqb (kindOf e) 1) (onlySets (cmdsAt s (listOf e))) (cmdsAt s (listOf e)))) (ne-eqb (kindOf e) 0 k)
-        ∙ ap (λ (x : Bool). pick x (onlySets (cmdsAt s (listOf e))) (cmdsAt s (listOf e))) h
-
-    pub obeyed-past : length s ≤ listOf e → {new : Bank} → Obeyed s e p old new false
-    obeyed-past l = record {
-      done = λ z. let y : _≡_ {A = ℕ} 0 1 = cc in absurd (omega arith);
-      past = λ _. past-is true (le-leb (length s) (listOf e) l);
-    }
-
-    module _ (l : listOf e < length s) {new : Bank} where
-      pub obeyed-sets : kindOf e ≡ 1 → new ≡ carry (onlySets (cmdsAt s (listOf e))) p old old → Obeyed s e p old new true
-      unfolding pick
-      obeyed-sets h n = record {
-        done = λ _. (
-          past-is false (lt-leb (length s) (listOf e) l),
-          n ∙ sym (ap (λ (x : List Cmd). carry x p old old) (orders-are true (eq-eqb (kindOf e) 1 h))),
-        );
-        past = λ z. let y : _≡_ {A = ℕ} 0 1 = cc in absurd (omega arith);
+    module _ (n : kindOf e ≡ 3 → ⊥) where
+      pub obeyed-past : length s ≤ listOf e → {new : Bank} → Obeyed s e p old new false
+      obeyed-past l = record {
+        done = λ z. let y : _≡_ {A = ℕ} 0 1 = cc in absurd (omega arith);
+        past = λ _. list-listed s e k n true (le-leb (length s) (listOf e) l);
       }
 
-      pub obeyed-all : (kindOf e ≡ 1 → ⊥) → new ≡ carry (cmdsAt s (listOf e)) p old old → Obeyed s e p old new true
-      unfolding pick
-      obeyed-all h n = record {
-        done = λ _. (
-          past-is false (lt-leb (length s) (listOf e) l),
-          n ∙ sym (ap (λ (x : List Cmd). carry x p old old) (orders-are false (ne-eqb (kindOf e) 1 h))),
-        );
-        past = λ z. let y : _≡_ {A = ℕ} 0 1 = cc in absurd (omega arith);
-      }
+      module _ (l : listOf e < length s) {new : Bank} where
+        pub obeyed-sets : kindOf e ≡ 1 → new ≡ carry (onlySets (cmdsAt s (listOf e))) p old old → Obeyed s e p old new true
+        obeyed-sets h = is-done (list-listed s e k n false (lt-leb (length s) (listOf e) l)) (onlySets (cmdsAt s (listOf e))) (sets-ordered s e k n h)
+
+        pub obeyed-all : (kindOf e ≡ 1 → ⊥) → new ≡ carry (cmdsAt s (listOf e)) p old old → Obeyed s e p old new true
+        obeyed-all h = is-done (list-listed s e k n false (lt-leb (length s) (listOf e) l)) (cmdsAt s (listOf e)) (all-ordered s e k n h)

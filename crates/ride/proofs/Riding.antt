@@ -17,6 +17,7 @@ use Rattle.run.specs.Carry.{carry}
 use Rattle.ride.specs.Image.{nextOf, kindOf, listOf}
 use Rattle.ride.specs.Ride.{onlySets, orders, listless, astray, endAt, taking, ridesFrom, started}
 use Rattle.ride.specs.Need.{Obeyed, Rideable}
+use Rattle.ride.proofs.Obeying.{none-listed, none-ordered}
 
 -- ---- an entry that leads on, or astray
 
@@ -39,12 +40,10 @@ module _ (s : List ℕ) (q : ℕ) (l : q < 128) where
   no-kind = omega arith
 
   pub stay-orders : orders s q ≡ []
-  unfolding pick orders
-  stay-orders = ap (λ (b : Bool). pick b [] (pick (eqb (kindOf q) 1) (onlySets (cmdsAt s (listOf q))) (cmdsAt s (listOf q)))) (eq-eqb (kindOf q) 0 no-kind)
+  stay-orders = none-ordered s q no-kind
 
   pub stay-list : listless s q ≡ false
-  unfolding pick listless
-  stay-list = ap (λ (b : Bool). pick b false (leb (length s) (listOf q))) (eq-eqb (kindOf q) 0 no-kind)
+  stay-list = none-listed s q no-kind
 
 -- ---- the way
 
@@ -97,21 +96,32 @@ module _ {s image w : List ℕ} {count : ℕ} (r : Rideable s image w count) whe
       unfolding pick
       way-outside c = taken true (not-counted s e (omega (arith, r .counted)))
 
-      pub way-past : nextOf e < count → {new : Bank} {t : Bool} → Obeyed s e (i + 1) bank new t → t ≡ false → refused 13 ≡ ridesFrom s image 0 (started s) 0 w
-      unfolding pick
-      way-past c o f = taken true (counted s e true (omega (arith, r .counted)) (o .past f))
+      -- the next situation and its row, where the row changed and where it was kept
+      abbrev Went : (p place : ℕ) → Type 0
+      Went p place = (nextOf e < count) × (p ≡ nextOf e) × (place ≡ 256 * nextOf e)
 
-      pub way-next : nextOf e < count → {new : Bank} {t : Bool} → Obeyed s e (i + 1) bank new t → t ≡ true → Way s image w (nextOf e) (256 * nextOf e) new (i + 1)
-      unfolding pick
-      way-next c {new} o f = record {
-        within = omega arith;
-        inside = omega (arith, r .counted);
-        small = omega arith;
-        here = refl;
-        left =
-            ap (λ (x : Bank). ridesFrom s image (nextOf e) x (i + 1) (drop (i + 1) w)) (o .done f .1)
-            ∙ taken false (counted s e false (omega (arith, r .counted)) (o .done f .0));
-      }
+      pub went-on : {p place : ℕ} → nextOf e < count → p ≡ nextOf e → place ≡ 256 * nextOf e → Went p place
+      went-on l f h = (l, f, h)
+
+      pub went-round : {p place : ℕ} → nextOf e ≡ q → p ≡ q → place ≡ row → Went p place
+      went-round k f h = (omega (arith, g .inside, r .counted), f ∙ sym k, h ∙ g .here ∙ ap (λ (n : ℕ). 256 * n) (sym k))
+
+      module _ {p place : ℕ} (h : Went p place) {new : Bank} {t : Bool} (o : Obeyed s e (i + 1) bank new t) where
+        pub way-past : t ≡ false → refused 13 ≡ ridesFrom s image 0 (started s) 0 w
+        unfolding pick
+        way-past f = taken true (counted s e true (omega (arith, h .0, r .counted)) (o .past f))
+
+        pub way-next : t ≡ true → Way s image w p place new (i + 1)
+        unfolding pick
+        way-next f = record {
+          within = omega arith;
+          inside = omega (arith, h .0, h .1, r .counted);
+          small = omega (arith, h .1);
+          here = h .2 ∙ ap (λ (n : ℕ). 256 * n) (sym (h .1));
+          left =
+              ap₂ (λ (n : ℕ) (x : Bank). ridesFrom s image n x (i + 1) (drop (i + 1) w)) (h .1) (o .done f .1)
+              ∙ taken false (counted s e false (omega (arith, h .0, r .counted)) (o .done f .0));
+        }
 
       pub way-stay : e ≡ q → Way s image w q row bank (i + 1)
       unfolding pick carry

@@ -12,7 +12,7 @@ use Rattle.card.specs.Judged.{Judged}
 use Rattle.card.specs.declared.RowItem.{RowItem}
 use Rattle.card.specs.declared.RowItem.the-variants.{Leads, Ends}
 
--- ---- an entry of 32 bits: 7 for the next situation, 2 for the kind of the list of commands, 23 for the list's place in the table
+-- ---- an entry of 32 bits: 7 for the next situation, 2 for the kind of the list of commands, 23 for the list's place in the table or a register
 
 abbrev pub nextOf : ℕ → ℕ
 nextOf e = e % 128
@@ -27,7 +27,7 @@ listOf e = e / 512
 unfoldable pub entry : (next kind at : ℕ) → ℕ
 entry next kind at = next % 128 + 128 * kind + 512 * (at % 8388608)
 
--- ---- the kind of a list: 0 none, 1 SETs only, 2 with a MOVE
+-- ---- the kind of a list: 0 none, 1 SETs only, 2 with a MOVE, 3 one SET alone
 
 abbrev pub allSets : List Cmd → Bool
 allSets [] = true
@@ -36,12 +36,17 @@ allSets (put t ∷ l) = allSets l
 
 abbrev pub listKind : List Cmd → ℕ
 listKind [] = 0
-listKind (c ∷ l) = pick (allSets (c ∷ l)) 1 2
+listKind (move t f ∷ l) = 2
+listKind (put t ∷ []) = 3
+listKind (put t ∷ (c ∷ l)) = pick (allSets (c ∷ l)) 1 2
 
--- where a list stands; 0 if there is none, so that an entry without commands is the next situation's number alone
-abbrev pub standing : List Cmd → ℕ → ℕ
-standing [] at = 0
-standing (c ∷ l) at = at
+-- where a list stands; of one SET alone its register, so that no list is read; 0 if there is none, so that an entry without
+-- commands is the next situation's number alone
+abbrev pub points : List Cmd → ℕ → ℕ
+points [] at = 0
+points (move t f ∷ l) at = at
+points (put t ∷ []) at = t
+points (put t ∷ (c ∷ l)) at = at
 
 -- ---- the place of a byte's row among the rows at a place: the first that ends at or after the byte; the table's end if there is none
 
@@ -59,7 +64,7 @@ spotAt s at b = spotN (length s) s at b
 -- ---- the entry of the row at a place
 
 abbrev pub rowEntry : RowItem → List Cmd → ℕ → ℕ
-rowEntry (Leads lo hi next) l at = entry next (listKind l) (standing l at)
+rowEntry (Leads lo hi next) l at = entry next (listKind l) (points l at)
 rowEntry Ends l at = 0
 
 unfoldable pub entryAt : List ℕ → ℕ → ℕ

@@ -1,11 +1,12 @@
 -- What the inner functions of a ride are told and say. Assumes nothing: these are definitions.
 use mathlib.Core.Path.{_≡_}
 use mathlib.Core.Bool.{Bool, true, false}
-use mathlib.Core.List.{List}
+use mathlib.Core.List.{List, []}
 use mathlib.Core.Logic.{_⊎_}
 use Prim.Native.Nat.{ℕ, _+_, _*_, _<_, _≤_}
 use lib.ListN.{length, getD}
 use Rattle.card.specs.Run.{Bank, lineMax}
+use Rattle.card.specs.Decode.{cmdsAt}
 use Rattle.loader.specs.Flow.{Ready}
 use Rattle.run.specs.Carry.{carry}
 use Rattle.ride.specs.Image.{spotAt, entryAt}
@@ -40,3 +41,8 @@ pub record Mountable (s places image : List ℕ) : Type 0 where
   pub ready : Ready s places
   pub short : length s < 8388608
   pub room : 257 * getD s 4 0 ≤ length image
+
+-- whether no command stands at a place
+pub record Alone (s : List ℕ) (at : ℕ) (r : Bool) : Type 0 where
+  pub none : r ≡ true → cmdsAt s at ≡ []
+  pub some : r ≡ false → cmdsAt s at ≡ [] → ⊥

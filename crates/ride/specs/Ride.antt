@@ -3,7 +3,7 @@
 use mathlib.Core.Path.{_≡_}
 use mathlib.Core.Bool.{Bool, true, false}
 use mathlib.Core.List.{List, [], _∷_, map}
-use Prim.Native.Nat.{ℕ, zero, suc, _+_, _*_, _<_, _≤_}
+use Prim.Native.Nat.{ℕ, zero, suc, _+_, _*_, _%_, _<_, _≤_}
 use lib.ListN.{length, getD, take, drop}
 use lib.IntN.{ℤ}
 use lib.Dec.{ltb, leb, eqb}
@@ -20,13 +20,16 @@ onlySets [] = []
 onlySets (move t f ∷ l) = []
 onlySets (put t ∷ l) = put t ∷ onlySets l
 
--- the commands of an entry: none; SETs only; any
+-- the commands of an entry: none; one SET alone, of the register that it names; SETs only; any
 unfoldable pub orders : List ℕ → ℕ → List Cmd
-orders s e = pick (eqb (kindOf e) 0) [] (pick (eqb (kindOf e) 1) (onlySets (cmdsAt s (listOf e))) (cmdsAt s (listOf e)))
+orders s e =
+    pick (eqb (kindOf e) 0) []
+    (pick (eqb (kindOf e) 3) (put (listOf e % 64) ∷ [])
+    (pick (eqb (kindOf e) 1) (onlySets (cmdsAt s (listOf e))) (cmdsAt s (listOf e))))
 
 -- its list stands past the table's end
 unfoldable pub listless : List ℕ → ℕ → Bool
-listless s e = pick (eqb (kindOf e) 0) false (leb (length s) (listOf e))
+listless s e = pick (eqb (kindOf e) 0) false (pick (eqb (kindOf e) 3) false (leb (length s) (listOf e)))
 
 -- an entry that points outside: at a situation that the HEAD does not count, or at a list past the table's end
 unfoldable pub astray : List ℕ → ℕ → Bool

@@ -2,10 +2,16 @@
 ghost use mathlib.Core.Path.{_≡_};
 ghost use Prim.Native.Nat.{_<_};
 ghost use Rattle.card.specs.Decode.{cmdsAt};
-ghost use Rattle.ride.specs.Image.{allSets, listKind, entry, spotAt, entryAt, Imaged};
-ghost use Rattle.ride.specs.Need.{RowImaged, Room, Mountable};
+ghost use Rattle.ride.specs.Image.{allSets, listKind, points, entry, spotAt, entryAt, Imaged};
+ghost use Rattle.ride.specs.Need.{Alone, RowImaged, Room, Mountable};
 use card::Order;
 use card::RowItem;
+
+// The kind of a list of commands, and where it stands or which register it sets.
+struct Sort {
+    kind: u32,
+    points: usize,
+}
 
 // Whether the list at a place has no MOVE.
 fn all_sets(s: &[u8], at: usize) -> bool
@@ -28,23 +34,56 @@ fn all_sets(s: &[u8], at: usize) -> bool
     }
 }
 
-// The kind of the list at a place: 0 none, 1 SETs only, 2 with a MOVE.
-fn list_kind(s: &[u8], at: usize) -> u32
-    ensures { λ r. ⌜ r ≡ listKind (cmdsAt (now (s .entry)) at) ⌝ }
+// Whether no command stands at a place.
+fn alone(s: &[u8], at: usize) -> bool
+    ensures { λ r. ⌜ Alone (now (s .entry)) at r ⌝ }
 {
     let o = card::read_cmd(s, at);
     match o {
         Order::Stop => {
-            return 0;
+            return true;
         }
         Order::Move(_, _) => {
-            return 2;
+            return false;
         }
         Order::Put(_) => {
-            if all_sets(s, at) {
-                return 1;
+            return false;
+        }
+    }
+}
+
+// The kind of the list at a place, and what its entry points to.
+fn list_sort(s: &[u8], at: usize) -> Sort
+    ensures { λ r. ⌜ (r .kind ≡ listKind (cmdsAt (now (s .entry)) at)) × (r .points ≡ points (cmdsAt (now (s .entry)) at) at) ⌝ }
+{
+    let o = card::read_cmd(s, at);
+    match o {
+        Order::Stop => {
+            return Sort { kind: 0, points: 0 };
+        }
+        Order::Move(_, _) => {
+            return Sort {
+                kind: 2,
+                points: at,
+            };
+        }
+        Order::Put(to) => {
+            if alone(s, at + 2) {
+                return Sort {
+                    kind: 3,
+                    points: to,
+                };
             }
-            return 2;
+            if all_sets(s, at + 2) {
+                return Sort {
+                    kind: 1,
+                    points: at,
+                };
+            }
+            return Sort {
+                kind: 2,
+                points: at,
+            };
         }
     }
 }
@@ -84,11 +123,8 @@ fn entry_at(s: &[u8], at: usize) -> u32
     let RowItem::Leads(_, _, next) = row else {
         return 0;
     };
-    let kind = list_kind(s, at + 4);
-    if kind == 0 {
-        return packed(next, 0, 0);
-    }
-    packed(next, kind, at + 4)
+    let l = list_sort(s, at + 4);
+    packed(next, l.kind, l.points)
 }
 
 // The 256 entries of the situation whose rows stand at a place, written from a place of the image on. Bytes rise, so

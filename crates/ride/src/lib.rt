@@ -96,6 +96,11 @@ fn obey(s: &[u8], e: usize, place: usize, bank: &mut [i16; 64]) -> bool
         return true;
     }
     let at = e / 512;
+    if kind == 3 {
+        let v = ground::held(place);
+        bank[at % 64] = v;
+        return true;
+    }
     if s.len() <= at {
         return false;
     }
@@ -146,8 +151,8 @@ fn tell(s: &[u8], at: usize, bank: &[i16; 64]) -> Ran
     }
 }
 
-// The way of a line over an image. An entry that equals the situation's number stays in it without commands: the row's
-// place stays too, so the next load does not wait for this one.
+// The way of a line over an image. An entry that equals the situation's number stays in it without commands. Wherever a
+// situation leads to itself the row's place stays, so that the next load does not wait for this one.
 fn ride_line(s: &[u8], image: &[u32], count: usize, line: &[u8]) -> Ran
     requires { ⌜ Rideable (now s) (now image) (now line) count ⌝ }
     ensures { λ r. ⌜ toldOf r ≡ ridesFrom (now (s .entry)) (now (image .entry)) 0 (started (now (s .entry))) 0 (now (line .entry)) ⌝ }
@@ -163,14 +168,16 @@ fn ride_line(s: &[u8], image: &[u32], count: usize, line: &[u8]) -> Ran
         i += 1;
         if e != q {
             let next = e % 128;
-            if count <= next {
-                return refusal(13);
+            if next != q {
+                if count <= next {
+                    return refusal(13);
+                }
+                q = next;
+                row = 256 * next;
             }
             if !obey(s, e, i, &mut bank) {
                 return refusal(13);
             }
-            q = next;
-            row = 256 * next;
         }
     }
     let at = word(image[256 * count + q]);

@@ -5,7 +5,8 @@ use native.Mathlib.Omega.{arith}
 use borrow.Author.Needs.{needs}
 use borrow.Author.Tests.{not-true, not-false}
 use lib.ListN.{length, getD}
-use Rattle.ride.proofs.Riding.{Way, way-begins, way-ends, way-outside, way-past, way-next, way-stay}
+use Rattle.ride.proofs.Riding.{Way, way-begins, way-ends, way-outside, way-past, way-next, way-stay, went-on, went-round}
+use mathlib.Core.Logic.{⊎-elim}
 use Rattle.ride.proofs.ride_line.Statement.{statement}
 use Rattle.ride.proofs.ride_line.Tie as tie
 
@@ -46,7 +47,10 @@ refusal-requires : tie.Need-refusal-requires Inv-loop μ-loop
 refusal-requires c κs = search needs
 
 returns : tie.Need-returns Inv-loop μ-loop
-returns c = c .refusal .ensures ∙ way-outside (c .before .before .before .before .before .before .before .before .before .before .before .before .before .before .pre) (c .before .before .before .before .before .before .before .before .loop .inv) (c .before .before .before .before .before .before .before .loop-test .taken) (c .before .before .before .before .before .wide .ensures) (c .before .before .before .word .ensures) (c .before .if2 .taken)
+returns c = c .refusal .ensures ∙ way-outside (c .before .before .before .before .before .before .before .before .before .before .before .before .before .before .before .pre) (c .before .before .before .before .before .before .before .before .before .loop .inv) (c .before .before .before .before .before .before .before .before .loop-test .taken) (c .before .before .before .before .before .before .wide .ensures) (c .before .before .before .before .word .ensures) (c .before .if3 .taken)
+
+mul-row : tie.Need-mul-row Inv-loop μ-loop
+mul-row c = omega arith
 
 obey-requires : tie.Need-obey-requires Inv-loop μ-loop
 obey-requires c κs = omega (arith, c .before .before .before .before .before .before .before .before .before .before .before .before .before .before .pre .short)
@@ -55,16 +59,18 @@ refusal-requires-2 : tie.Need-refusal-requires-2 Inv-loop μ-loop
 refusal-requires-2 c κs = search needs
 
 returns-2 : tie.Need-returns-2 Inv-loop μ-loop
-returns-2 c = c .refusal2 .ensures ∙ way-past (c .before .before .before .before .before .before .before .before .before .before .before .before .before .before .before .before .before .pre) (c .before .before .before .before .before .before .before .before .before .before .before .loop .inv) (c .before .before .before .before .before .before .before .before .before .before .loop-test .taken) (c .before .before .before .before .before .before .before .before .wide .ensures) (c .before .before .before .before .before .before .word .ensures) (c .before .before .before .before .if2 .left) (c .before .before .obey .ensures) (not-true _ (c .before .if3 .taken))
-
-mul-row : tie.Need-mul-row Inv-loop μ-loop
-mul-row c = omega arith
+returns-2 c =
+    c .refusal2 .ensures
+    ∙ way-past (c .before .before .before .before .before .before .before .before .before .before .before .before .before .before .before .before .before .pre) (c .before .before .before .before .before .before .before .before .before .before .before .loop .inv) (c .before .before .before .before .before .before .before .before .before .before .loop-test .taken) (c .before .before .before .before .before .before .before .before .wide .ensures) (c .before .before .before .before .before .before .word .ensures)
+    (⊎-elim (λ w. went-on (c .before .before .before .before .before .before .before .before .before .before .before .before .before .before .before .before .before .pre) (c .before .before .before .before .before .before .before .before .before .before .before .loop .inv) (c .before .before .before .before .before .before .before .before .before .before .loop-test .taken) (c .before .before .before .before .before .before .before .before .wide .ensures) (c .before .before .before .before .before .before .word .ensures) (w .1 .left) (w .2) (w .3)) (λ w. went-round (c .before .before .before .before .before .before .before .before .before .before .before .before .before .before .before .before .before .pre) (c .before .before .before .before .before .before .before .before .before .before .before .loop .inv) (c .before .before .before .before .before .before .before .before .before .before .loop-test .taken) (c .before .before .before .before .before .before .before .before .wide .ensures) (c .before .before .before .before .before .before .word .ensures) (w .0 .left) (w .1) (w .2)) (c .before .before .before .before .if2 .came)) (c .before .before .obey .ensures) (not-true _ (c .before .if4 .taken))
 
 loop-less : tie.Need-loop-less Inv-loop μ-loop
 loop-less c = omega arith
 
 loop-again : tie.Need-loop-again Inv-loop μ-loop
-loop-again c = way-next (c .before .before .before .before .before .before .before .before .before .before .before .before .before .before .before .before .pre) (c .before .before .before .before .before .before .before .before .before .before .loop .inv) (c .before .before .before .before .before .before .before .before .before .loop-test .taken) (c .before .before .before .before .before .before .before .wide .ensures) (c .before .before .before .before .before .word .ensures) (c .before .before .before .if2 .left) (c .before .obey .ensures) (not-false _ (c .if3 .left))
+loop-again c =
+    way-next (c .before .before .before .before .before .before .before .before .before .before .before .before .before .before .before .before .pre) (c .before .before .before .before .before .before .before .before .before .before .loop .inv) (c .before .before .before .before .before .before .before .before .before .loop-test .taken) (c .before .before .before .before .before .before .before .wide .ensures) (c .before .before .before .before .before .word .ensures)
+    (⊎-elim (λ w. went-on (c .before .before .before .before .before .before .before .before .before .before .before .before .before .before .before .before .pre) (c .before .before .before .before .before .before .before .before .before .before .loop .inv) (c .before .before .before .before .before .before .before .before .before .loop-test .taken) (c .before .before .before .before .before .before .before .wide .ensures) (c .before .before .before .before .before .word .ensures) (w .1 .left) (w .2) (w .3)) (λ w. went-round (c .before .before .before .before .before .before .before .before .before .before .before .before .before .before .before .before .pre) (c .before .before .before .before .before .before .before .before .before .before .loop .inv) (c .before .before .before .before .before .before .before .before .before .loop-test .taken) (c .before .before .before .before .before .before .before .wide .ensures) (c .before .before .before .before .before .word .ensures) (w .0 .left) (w .1) (w .2)) (c .before .before .before .if2 .came)) (c .before .obey .ensures) (not-false _ (c .if4 .left))
 
 loop-less-2 : tie.Need-loop-less-2 Inv-loop μ-loop
 loop-less-2 c = omega arith
@@ -110,10 +116,10 @@ ride-line-spec =
     add-i
     refusal-requires
     returns
+    mul-row
     obey-requires
     refusal-requires-2
     returns-2
-    mul-row
     loop-less
     loop-again
     loop-less-2

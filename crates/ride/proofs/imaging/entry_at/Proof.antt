@@ -4,7 +4,7 @@ use native.Mathlib.Omega.{arith}
 use Rattle.card.proofs.Rows.{row-whole}
 use Rattle.card.specs.Decode.{cmdsAt}
 use Prim.Native.Nat.{_+_}
-use Rattle.ride.proofs.Entries.{kind-few, entry-ends, entry-plain, entry-list}
+use Rattle.ride.proofs.Entries.{kind-few, entry-ends, entry-sorted}
 use borrow.Author.Needs.{needs}
 use Rattle.ride.proofs.imaging.entry_at.Statement.{statement}
 use Rattle.ride.proofs.imaging.entry_at.Tie as tie
@@ -21,26 +21,17 @@ enum-told c = search needs
 returns : tie.Need-returns
 returns c = entry-ends _ _ (sym (c .before .before .read-row .ensures) ∙ c .enum-told .given .1)
 
-add-list-kind : tie.Need-add-list-kind
-add-list-kind c = let f = row-whole _ _ _ _ _ (sym (c .before .before .before .read-row .ensures) ∙ c .before .row .given .1) in omega arith
+add-list-sort : tie.Need-add-list-sort
+add-list-sort c = let f = row-whole _ _ _ _ _ (sym (c .before .before .before .read-row .ensures) ∙ c .before .row .given .1) in omega arith
 
-list-kind-requires : tie.Need-list-kind-requires
-list-kind-requires c κs = search needs
+list-sort-requires : tie.Need-list-sort-requires
+list-sort-requires c κs = search needs
 
 packed-requires : tie.Need-packed-requires
-packed-requires c κs = search needs
+packed-requires c κs = omega (arith, c .list-sort .ensures .0, kind-few (cmdsAt (c .before .before .before .before .before .before .args .s .now) (c .before .before .before .before .before .before .args .at + 4)))
 
 returns-2 : tie.Need-returns-2
-returns-2 c = c .packed .ensures ∙ entry-plain _ _ _ _ _ (sym (c .before .before .before .before .before .before .read-row .ensures) ∙ c .before .before .before .before .row .given .1) _ (c .before .before .list-kind .ensures) (c .before .if1 .taken)
-
-add-packed : tie.Need-add-packed
-add-packed c = let f = row-whole _ _ _ _ _ (sym (c .before .before .before .before .before .read-row .ensures) ∙ c .before .before .before .row .given .1) in omega arith
-
-packed-requires-2 : tie.Need-packed-requires-2
-packed-requires-2 c κs = omega (arith, c .before .list-kind .ensures, kind-few (cmdsAt (c .before .before .before .before .before .before .before .args .s .now) (c .before .before .before .before .before .before .before .args .at + 4)))
-
-returns-3 : tie.Need-returns-3
-returns-3 c = c .packed2 .ensures ∙ entry-list _ _ _ _ _ (sym (c .before .before .before .before .before .before .read-row .ensures) ∙ c .before .before .before .before .row .given .1) _ (c .before .before .list-kind .ensures) (c .before .if1 .left)
+returns-2 c = c .packed .ensures ∙ entry-sorted _ _ _ _ _ (sym (c .before .before .before .before .before .read-row .ensures) ∙ c .before .before .before .row .given .1) _ _ (c .before .list-sort .ensures .0) (c .before .list-sort .ensures .1)
 
 pub entry-at-spec : {M : Type 1} → statement M
 entry-at-spec =
@@ -50,10 +41,7 @@ entry-at-spec =
     enum-known-row
     enum-told
     returns
-    add-list-kind
-    list-kind-requires
+    add-list-sort
+    list-sort-requires
     packed-requires
-    returns-2
-    add-packed
-    packed-requires-2
-    returns-3)
+    returns-2)
