@@ -4,9 +4,240 @@
 #include <stdlib.h>
 #include <string.h>
 
-enum { OK, KIND = 5, SHORT, FIELD, EXTRA, REGISTERS = 10, SITUATIONS, OUT_SMALL, TABLE_FORM, EMPTY_READ, LINE_LONG,
+enum { OK, LONG, FORM, DEEP, BIG, KIND, SHORT, FIELD, EXTRA, REGISTERS = 10, SITUATIONS, OUT_SMALL, TABLE_FORM, EMPTY_READ, LINE_LONG,
        NO_MATCH };
 enum { NOW = 64, NONE = 65, MOST = 96 };
+
+/* ---- pattern text ---- */
+
+enum { EMPTY, BYTES, SET, TAG, SEQUENCE, CHOICE, STAR, PLUS, OPTION };
+
+typedef struct {
+    int kind, a, b, records; /* a byte range, a tag, or the nodes it is made of; how many records it needs */
+    uint8_t bits[32];
+} node;
+
+typedef struct {
+    const uint8_t *text;
+    size_t len, at;
+    int depth, code, tags, count;
+    node nodes[1200];
+} reader;
+
+static const struct {
+    const char *name;
+    uint8_t spans[8]; /* pairs lo, hi */
+} classes[12] = {
+    {"alnum", "09AZaz"}, {"alpha", "AZaz"}, {"blank", "\t\t  "}, {"cntrl", {0, 31, 127, 127}}, {"digit", "09"},
+    {"graph", "!~"},     {"lower", "az"},   {"print", " ~"},     {"punct", "!/:@[`{~"},        {"space", "\t\r  "},
+    {"upper", "AZ"},     {"xdigit", "09AFaf"},
+};
+
+static int add(reader *r, int kind, int a, int b, int records) {
+    node *n = &r->nodes[r->count];
+    *n = (node){.kind = kind, .a = a, .b = b, .records = records};
+    return r->count++;
+}
+
+static int records_of(const reader *r, int n) { return r->nodes[n].records; }
+static int more(const reader *r) { return r->at < r->len; }
+static int peek(const reader *r) { return more(r) ? r->text[r->at] : -1; }
+static int among(int byte, const char *set) { return byte > 0 && strchr(set, byte) != NULL; }
+static int fault(reader *r) { return r->code = FORM; }
+
+static void allow(node *n, int lo, int hi) {
+    for (int b = lo; b <= hi; b++) n->bits[b / 8] |= (uint8_t)(1 << b % 8);
+}
+
+/* Behind `[:`: the class whose name stands there, its `:]` read. */
+static int class_name(reader *r) {
+    char name[8] = "";
+    for (size_t n = 0;; r->at++) {
+        int byte = peek(r), fits = 0;
+        for (int c = 0; c < 12; c++) {
+            if (strncmp(classes[c].name, name, n) != 0) continue;
+            if (byte == ':' && classes[c].name[n] == 0) {
+                r->at++;
+                if (peek(r) != ']') return fault(r), 0;
+                r->at++;
+                return c;
+            }
+            fits |= byte > 0 && classes[c].name[n] == byte;
+        }
+        if (!fits) return fault(r), 0;
+        name[n++] = (char)byte;
+        name[n] = 0;
+    }
+}
+
+/* A byte of a set, escaped or not, at least `low`. */
+static int set_byte(reader *r, int low) {
+    int escaped = peek(r) == '\\';
+    r->at += (size_t)escaped;
+    if (!more(r) || peek(r) < low || (!escaped && among(peek(r), "[]\\-^"))) return fault(r), 0;
+    return r->text[r->at++];
+}
+
+static int set(reader *r) {
+    int n = add(r, SET, 0, 0, 1), inverse = peek(r) == '^';
+    r->at += (size_t)inverse;
+    do {
+        if (peek(r) == '[') {
+            r->at++;
+            if (peek(r) != ':') return fault(r), n;
+            r->at++;
+            int c = class_name(r);
+            if (r->code) return n;
+            const uint8_t *s = classes[c].spans;
+            for (int i = 0; i < 8 && s[i + 1]; i += 2) allow(&r->nodes[n], s[i], s[i + 1]);
+        } else {
+            int lo = set_byte(r, 0), hi = lo;
+            if (r->code) return n;
+            if (peek(r) == '-') {
+                r->at++;
+                hi = set_byte(r, lo);
+                if (r->code) return n;
+            }
+            allow(&r->nodes[n], lo, hi);
+        }
+    } while (peek(r) != ']');
+    r->at++;
+    for (int i = 0; inverse && i < 32; i++) r->nodes[n].bits[i] ^= 255;
+    return n;
+}
+
+static int choice(reader *r);
+
+static int atom(reader *r) {
+    int byte = r->text[r->at], inner;
+    if (among(byte, "*+?]")) return fault(r), 0;
+    if (byte == '(' && r->depth == 16) return r->code = DEEP, 0;
+    r->at++;
+    switch (byte) {
+    case '.':
+        return add(r, BYTES, 0, 255, 1);
+    case '\\':
+        if (!more(r)) return fault(r), 0;
+        byte = r->text[r->at++];
+        return add(r, BYTES, byte, byte, 1);
+    case '@':
+        if (peek(r) < '0' || peek(r) > '7') return fault(r), 0;
+        byte = r->text[r->at++] - '0';
+        if (byte >= r->tags) r->tags = byte + 1;
+        return add(r, TAG, byte, 0, 1);
+    case '[':
+        return set(r);
+    case '(':
+        r->depth++;
+        inner = choice(r);
+        if (!r->code && peek(r) != ')') fault(r);
+        r->at += !r->code;
+        r->depth--;
+        return inner;
+    default:
+        return add(r, BYTES, byte, byte, 1);
+    }
+}
+
+static int sequence(reader *r) {
+    int whole = add(r, EMPTY, 0, 0, 0);
+    while (!r->code && more(r) && peek(r) != '|' && !(peek(r) == ')' && r->depth > 0)) {
+        if (peek(r) == ')') return fault(r), whole;
+        int piece = atom(r);
+        if (r->code) return whole;
+        const char *marks = "*+?", *mark = among(peek(r), marks) ? strchr(marks, peek(r)) : NULL;
+        if (mark) {
+            piece = add(r, STAR + (int)(mark - marks), piece, 0, 1 + records_of(r, piece));
+            r->at++;
+        }
+        whole = add(r, SEQUENCE, whole, piece, records_of(r, whole) + records_of(r, piece));
+    }
+    return whole;
+}
+
+static int choice(reader *r) {
+    int first = sequence(r);
+    if (r->code || peek(r) != '|') return first;
+    r->at++;
+    int second = choice(r);
+    return add(r, CHOICE, first, second, 1 + records_of(r, first) + records_of(r, second));
+}
+
+/* A piece's first record: the start of an empty one is what follows it. */
+static int start_of(const reader *r, int n, int at, int follow) { return records_of(r, n) ? at : follow; }
+
+static uint8_t *emit_fork(uint8_t *w, int first, int second) {
+    *w++ = 0x13;
+    *w++ = (uint8_t)first;
+    *w++ = (uint8_t)second;
+    return w;
+}
+
+static uint8_t *emit(const reader *r, int n, int at, int follow, uint8_t *w) {
+    const node *p = &r->nodes[n];
+    int middle;
+    switch (p->kind) {
+    case BYTES:
+        *w++ = 0x11;
+        *w++ = (uint8_t)p->a;
+        *w++ = (uint8_t)p->b;
+        break;
+    case SET:
+        *w++ = 0x12;
+        memcpy(w, p->bits, 32);
+        w += 32;
+        break;
+    case TAG:
+        *w++ = 0x14;
+        *w++ = (uint8_t)p->a;
+        break;
+    case SEQUENCE:
+        middle = at + records_of(r, p->a);
+        w = emit(r, p->a, at, start_of(r, p->b, middle, follow), w);
+        return emit(r, p->b, middle, follow, w);
+    case CHOICE:
+        middle = at + 1 + records_of(r, p->a);
+        w = emit_fork(w, start_of(r, p->a, at + 1, follow), start_of(r, p->b, middle, follow));
+        return emit(r, p->b, middle, follow, emit(r, p->a, at + 1, follow, w));
+    case STAR:
+        return emit(r, p->a, at + 1, at, emit_fork(w, start_of(r, p->a, at + 1, at), follow));
+    case PLUS:
+        middle = at + records_of(r, p->a);
+        w = emit(r, p->a, at, middle, w);
+        return emit_fork(w, start_of(r, p->a, at, middle), follow);
+    case OPTION:
+        return emit(r, p->a, at + 1, follow, emit_fork(w, start_of(r, p->a, at + 1, follow), follow));
+    default:
+        return w;
+    }
+    *w++ = (uint8_t)follow;
+    return w;
+}
+
+uint8_t plain_pattern(const uint8_t *text, size_t len, uint8_t *out, size_t out_len, size_t *place, size_t *length) {
+    static reader r;
+    *place = *length = 0;
+    if (len > 255) return LONG;
+    r.text = text;
+    r.len = len;
+    r.at = 0;
+    r.depth = r.code = r.tags = r.count = 0;
+    int whole = choice(&r);
+    if (r.code) {
+        *place = r.at;
+        return (uint8_t)r.code;
+    }
+    int records = records_of(&r, whole) + 1;
+    if (records > 64) return BIG;
+    uint8_t file[4 + 64 * 34] = {0x10, 1, (uint8_t)r.tags, (uint8_t)records};
+    uint8_t *end = emit(&r, whole, 0, records - 1, file + 4);
+    *end++ = 0x15;
+    *end++ = 0;
+    if ((size_t)(end - file) > out_len) return OUT_SMALL;
+    *length = (size_t)(end - file);
+    memcpy(out, file, *length);
+    return OK;
+}
 
 /* ---- the automaton ---- */
 

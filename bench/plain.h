@@ -9,6 +9,9 @@
 extern "C" {
 #endif
 
+/* As cv_pattern. */
+uint8_t plain_pattern(const uint8_t *text, size_t len, uint8_t *out, size_t out_len, size_t *place, size_t *length);
+
 /* As cv_build, but for the work memory: this one keeps its own. */
 uint8_t plain_build(const uint8_t *net, size_t net_len, uint8_t *out, size_t out_len, size_t *length,
                     size_t *situations, size_t *registers);
