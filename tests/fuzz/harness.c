@@ -171,6 +171,100 @@ static void fuzz_pattern(const uint8_t *data, size_t len, size_t out_len) {
     fuzz_run(lend(&in_a, card, card_len), card_len, lend(&in_b, data + rest, len - rest), len - rest);
 }
 
+/* Files of the right form or one byte beside it, drawn from the input: what chance alone would hardly write. */
+typedef struct {
+    const uint8_t *data;
+    size_t len;
+} draw;
+
+static int below(draw *d, int n) {
+    if (d->len == 0) return 0;
+    d->len--;
+    return *d->data++ % n;
+}
+
+static uint8_t *put(uint8_t *w, int a, int b) {
+    *w++ = (uint8_t)a;
+    *w++ = (uint8_t)b;
+    return w;
+}
+
+static uint8_t *drawn_commands(draw *d, int registers, int kinds, uint8_t *w) {
+    for (int to = 0; to < registers; to++) {
+        int kind = below(d, kinds);
+        if (kind > 0) w = put(w, kind == 1 ? 0x25 : 0x24, to);
+        if (kind == 2) *w++ = (uint8_t)below(d, registers);
+    }
+    return w;
+}
+
+/* One byte of the file made another, for one input in four. */
+static int damage(draw *d, uint8_t *file, size_t len) {
+    if (below(d, 4) != 1) return 0;
+    size_t at = (size_t)(below(d, 256) << 8 | below(d, 256)) % len;
+    file[at] = (uint8_t)(below(d, 2) ? file[at] + 1 - 2 * below(d, 2) : below(d, 256));
+    return 1;
+}
+
+static void fuzz_drawn_table(draw d) {
+    static uint8_t table[1 << 12];
+    int registers = below(&d, 6), situations = 1 + below(&d, 6);
+    uint8_t *w = put(put(table, 0x21, 1), 2, registers);
+    *w++ = (uint8_t)situations;
+    w = drawn_commands(&d, registers, 2, w);
+    for (int q = 0; q < situations; q++) {
+        int answer = below(&d, 2) ? below(&d, 255) : 255;
+        w = put(w, 0x22, answer);
+        for (int t = 0; t < 8; t++) {
+            int field = t < 2 && answer < 255 ? below(&d, registers + 1) : registers;
+            *w++ = (uint8_t)(field == registers ? 255 : field);
+        }
+        for (int lo = 0, rows = 0; lo < 256; rows++) {
+            int hi = rows == 3 ? 255 : lo + below(&d, 256 - lo);
+            w = put(put(w, 0x23, lo), hi, below(&d, situations));
+            w = drawn_commands(&d, registers, 3, w);
+            lo = hi + 1;
+        }
+    }
+    size_t len = (size_t)(w - table);
+    int damaged = damage(&d, table, len);
+    const uint8_t *lent = lend(&in_a, table, len);
+    uint8_t code = cv_load(lent, len);
+    CHECK(damaged || code != CV_TABLE_FORM);
+    CHECK(code == plain_load(lent, len));
+    fuzz_run(lent, len, lend(&in_b, d.data, d.len), d.len);
+}
+
+static void fuzz_drawn_net(draw d) {
+    static uint8_t net[CV_NET_MAX];
+    int count = 1 + below(&d, 16), tags = below(&d, 9);
+    uint8_t *w = put(put(net, 0x10, 1), tags, count);
+    for (int i = 0; i < count; i++) {
+        int kind = 0x11 + below(&d, 5);
+        if (kind == 0x14 && tags == 0) kind = 0x13;
+        *w++ = (uint8_t)kind;
+        if (kind == 0x11) {
+            int lo = below(&d, 256);
+            w = put(w, lo, lo + below(&d, 256 - lo));
+        } else if (kind == 0x12) {
+            memset(w, below(&d, 256), 32);
+            w[below(&d, 32)] = (uint8_t)below(&d, 256);
+            w += 32;
+        } else if (kind == 0x13) {
+            *w++ = (uint8_t)below(&d, count);
+        } else if (kind == 0x14) {
+            *w++ = (uint8_t)below(&d, tags);
+        }
+        *w++ = (uint8_t)below(&d, kind == 0x15 ? 255 : count);
+    }
+    static uint8_t card[CV_TABLE_ROOM];
+    damage(&d, net, (size_t)(w - net));
+    size_t card_len = fuzz_build(net, (size_t)(w - net), CV_WORK_MIN, CV_TABLE_ROOM);
+    if (card_len == 0) return;
+    memcpy(card, out_a.all + out_a.room - CV_TABLE_ROOM, card_len);
+    fuzz_run(lend(&in_a, card, card_len), card_len, lend(&in_b, d.data, d.len), d.len);
+}
+
 int LLVMFuzzerTestOneInput(const uint8_t *data, size_t len) {
     if (in_a.all == NULL) {
         open_arena(&in_a, 1 << 17);
@@ -183,7 +277,7 @@ int LLVMFuzzerTestOneInput(const uint8_t *data, size_t len) {
     const uint8_t *rest = data + 2;
     size_t rest_len = len - 2;
     int16_t places[8];
-    switch (data[0] % 4) {
+    switch (data[0] % 6) {
     case 0: /* mostly with room enough */
         fuzz_pattern(rest, rest_len, data[1] < 200 ? CV_NET_MAX : data[1] - 200u);
         break;
@@ -193,6 +287,12 @@ int LLVMFuzzerTestOneInput(const uint8_t *data, size_t len) {
         break;
     case 2:
         fuzz_table(rest, rest_len);
+        break;
+    case 3:
+        fuzz_drawn_table((draw){rest, rest_len});
+        break;
+    case 4:
+        fuzz_drawn_net((draw){rest, rest_len});
         break;
     default:
         if (rest_len < 16) return 0;

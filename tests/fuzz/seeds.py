@@ -45,7 +45,8 @@ def main(folder):
         table = bytes.fromhex(t)
         inputs.append(bytes([2, 0]) + len(table).to_bytes(2, "little") + table + b"abab")
         inputs.append(bytes([2, 0]) + len(table).to_bytes(2, "little") + table + b"\xffab")
-    inputs.append(bytes([3, 10]) + b"\x00\x00\x03\x00" + b"\xff" * 12 + b"abcdef")
+    inputs += [bytes([kind, 0]) + bytes(i * k % 251 for i in range(120)) for kind in (3, 4) for k in (1, 7, 31, 77)]
+    inputs.append(bytes([5, 10]) + b"\x00\x00\x03\x00" + b"\xff" * 12 + b"abcdef")
     for i, data in enumerate(inputs):
         with open(os.path.join(folder, f"seed-{i:02}"), "wb") as f:
             f.write(data)
