@@ -6,6 +6,8 @@ ghost use Rattle.card.specs.Decode.{tableAt};
 ghost use Rattle.card.specs.Judged.{Judged};
 ghost use Rattle.loader.specs.Judges.{Judges};
 ghost use Rattle.loader.specs.Flow.{Listed, flow, Words, Flowed, Round, Sweep, Settled, Loud, EmptyRead, Says, RowsOf, Ready, RowAsks, FieldAsks, bitOf};
+use answers::EMPTY_READ;
+use answers::TABLE_FORM;
 use card::Order;
 use card::RowItem;
 
@@ -205,11 +207,17 @@ pub fn judge(table: &[u8]) -> Judgement
 {
     let mut places = [0usize; 96];
     if !card::form::form_ok(table) {
-        return Judgement { code: 13, places };
+        return Judgement {
+            code: TABLE_FORM,
+            places,
+        };
     }
     card::places(table, &mut places);
     if empty_read(table, &places) {
-        return Judgement { code: 14, places };
+        return Judgement {
+            code: EMPTY_READ,
+            places,
+        };
     }
     Judgement { code: 0, places }
 }

@@ -5,16 +5,11 @@ ghost use lib.ListN.{length, getD, take, drop};
 ghost use Rattle.net.specs.Items.{headOf, bodyAt, itemAt, netOf, codeOf};
 ghost use Rattle.net.specs.Calls.{head-shown, shown, head-refusal-of, refusal-of, no-layout, LayoutOf};
 ghost use Rattle.net.specs.Count.{count-below, between, bit-set, refuse, rec-count, rec-shown, Countable, byteCount};
-
-pub const NET_KIND: u8 = 5;
-
-pub const NET_SHORT: u8 = 6;
-
-pub const NET_FIELD: u8 = 7;
-
-pub const NET_EXTRA: u8 = 8;
-
-pub const NOT_BYTES: u8 = 20;
+use answers::NET_EXTRA;
+use answers::NET_FIELD;
+use answers::NET_KIND;
+use answers::NET_SHORT;
+use answers::NOT_BYTES;
 
 // What reading the HEAD gives: tags and count, or the refusal.
 pub enum Head {

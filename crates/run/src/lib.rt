@@ -7,6 +7,8 @@ ghost use Rattle.card.specs.Decode.{cmdAt, cmdsAt, rowsAt, tableAt};
 ghost use Rattle.card.specs.Run.{lineMax, rowFor, at, over, refused, placeAt, tells};
 ghost use Rattle.run.specs.Carry.{carry, LeadsTo, Eight, Rides, Listless};
 ghost use Rattle.run.specs.Runs.{toldOf, Runs};
+use answers::LINE_LONG;
+use answers::NO_MATCH;
 use bank::Bank;
 use card::Order;
 use card::RowItem;
@@ -153,7 +155,7 @@ pub fn run_taken(s: &[u8], places: &[usize; 96], line: &[u8]) -> Ran
     let p = places[q];
     let answer = s[p + 1];
     if answer == 255 {
-        return refusal(16);
+        return refusal(NO_MATCH);
     }
     let bank = stand.bank;
     let fields = fields_at(s, p + 2, bank);
@@ -174,7 +176,7 @@ pub fn run(table: &[u8], line: &[u8]) -> Ran
         return refusal(code);
     }
     if LINE_MAX < line.len() {
-        return refusal(15);
+        return refusal(LINE_LONG);
     }
     let places = j.places;
     run_taken(table, &places, line)
