@@ -1,0 +1,4 @@
+// A trivial function: the crate is there for its specs and laws.
+pub fn three() -> u8 {
+    3
+}

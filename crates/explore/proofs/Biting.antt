@@ -1,0 +1,147 @@
+-- What a byte does at a record, and over a list. Assumes nothing.
+use mathlib.Core.Path.{_≡_, refl, sym, ap, _∙_, subst}
+use mathlib.Core.Logic.{_⊎_, inl, inr}
+use mathlib.Core.Bool.{Bool, true, false, _&&_, cond}
+use mathlib.Core.List.{List, [], _∷_, _++_, map, foldl, append-nil}
+use Prim.Native.Nat.{ℕ, zero, suc, _+_, _-_, _/_, _%_, _^_, _≤_, _<_}
+use native.Mathlib.Omega.{arith}
+use native.Mathlib.Numerals.{add-one}
+use lib.Dec.{eqb, leb}
+use lib.ListN.{length, getD, take, drop, set, length-map}
+use lib.Seq.{getD-take, getD-drop, take-suc}
+use borrow.Author.Tests.{eq-eqb, ne-eqb, le-leb, lt-leb}
+use Rattle.net.specs.Rec.{Rec, range, mask, fork, tag, end, Net, rec, bit}
+use Rattle.paths.specs.Ways.{Move, eat}
+use Rattle.ground.specs.Lists.{each}
+use Rattle.paths.specs.Search.{Thread}
+use Rattle.paths.specs.Situation.{bite, follow, on-byte, close}
+use Rattle.paths.specs.Registers.{Tags, tagged, standing, step}
+use Rattle.paths.specs.Marks.{Marked, marking, marked-close}
+use Rattle.paths.proofs.Marking.{marked-right}
+use Rattle.paths.proofs.Heart.{each-append}
+use Rattle.explore.specs.Items.{rec-at, net, Inside, Formed, lands}
+use Rattle.explore.specs.States.{Below, Fit, thread-of, threads-of, Ready, Means}
+use Rattle.explore.specs.declared.Entry.{Entry}
+use Rattle.explore.specs.declared.Found.{Found}
+use Rattle.explore.proofs.Reading.{at-range, at-mask, rec-net, net-inside}
+use Rattle.explore.proofs.Bits.{map-append}
+
+module _ (b lo hi n : ℕ) where
+  pub range-in-it : lo ≤ b → b ≤ hi → n ≡ lands (bite b (range lo hi n))
+  range-in-it h g = rw (le-leb lo b h, le-leb b hi g)
+
+  pub range-under : b < lo → 255 ≡ lands (bite b (range lo hi n))
+  range-under h = rw (lt-leb lo b h)
+
+  pub range-over : lo ≤ b → hi < b → 255 ≡ lands (bite b (range lo hi n))
+  range-over h g = rw (le-leb lo b h, lt-leb b hi g)
+
+module _ (f : List ℕ) (at b n : ℕ) (small : b < 256) where
+  bit-at : bit (take 32 (drop (at + 1) f)) b ≡ getD f (at + 1 + b / 8) 0 / 2 ^ (b % 8) % 2
+  bit-at = let s : b / 8 < 32 = omega arith in ap (λ v. v / 2 ^ (b % 8) % 2) (getD-take 32 (drop (at + 1) f) (b / 8) 0 s ∙ getD-drop (at + 1) f (b / 8) 0)
+
+  pub mask-in-it : getD f (at + 1 + b / 8) 0 / 2 ^ (b % 8) % 2 ≡ 1 → n ≡ lands (bite b (mask (take 32 (drop (at + 1) f)) n))
+  mask-in-it h = let e = eq-eqb (bit (take 32 (drop (at + 1) f)) b) 1 (bit-at ∙ h) in rw e
+
+  pub mask-out : (getD f (at + 1 + b / 8) 0 / 2 ^ (b % 8) % 2 ≡ 1 → ⊥) → 255 ≡ lands (bite b (mask (take 32 (drop (at + 1) f)) n))
+  mask-out h = let e = ne-eqb (bit (take 32 (drop (at + 1) f)) b) 1 (λ p. h (sym bit-at ∙ p)) in rw e
+
+pub no-bite : (f : List ℕ) (at b : ℕ) → (getD f at 0 ≡ 17 → ⊥) → (getD f at 0 ≡ 18 → ⊥) → 255 ≡ lands (bite b (rec-at f at))
+unfolding rec-at
+no-bite f at b h g = rw (ne-eqb (getD f at 0) 17 h, ne-eqb (getD f at 0) 18 g) (by (eqb (getD f at 0) 19) (eqb (getD f at 0) 20) _ _ _ _ _)
+  where
+    by : (p q : Bool) (x y z u v : ℕ) → 255 ≡ lands (bite b (cond p (fork x y) (cond q (tag z u) (end v))))
+    by true q x y z u v = refl
+    by false true x y z u v = refl
+    by false false x y z u v = refl
+
+-- 255 is no record
+abbrev pick : ℕ → ℕ → Bool → List (Move × ℕ)
+pick b n k = cond {A = List (Move × ℕ)} k ((eat b, n) ∷ []) []
+
+some-or-none : (b n : ℕ) (k : Bool) (x : ℕ) → x ≡ lands (pick b n k) → (x ≡ 255 → ⊥) → (pick b n k ≡ (eat b, x) ∷ []) × (n ≡ x)
+some-or-none b n true x e h = (ap (λ v. (eat b, v) ∷ []) (sym e), sym e)
+some-or-none b n false x e h = absurd (h e)
+
+none-of : (b n : ℕ) (k : Bool) (x : ℕ) → n < 64 → x ≡ lands (pick b n k) → x ≡ 255 → pick b n k ≡ []
+none-of b n true x s e h = absurd (omega arith)
+none-of b n false x s e h = refl
+
+pub bite-some : (N b x : ℕ) (c : Rec) → Inside N c → x ≡ lands (bite b c) → (x ≡ 255 → ⊥) → (bite b c ≡ (eat b, x) ∷ []) × (x < N)
+bite-some N b x (range lo hi n) i e h = let s = some-or-none b n (leb lo b && leb b hi) x e h in (s .0, subst (λ v. v < N) (s .1) i)
+bite-some N b x (mask bits n) i e h = let s = some-or-none b n (eqb (bit bits b) 1) x e h in (s .0, subst (λ v. v < N) (s .1) i)
+bite-some N b x (fork p q) i e h = absurd (h e)
+bite-some N b x (tag t n) i e h = absurd (h e)
+bite-some N b x (end a) i e h = absurd (h e)
+
+pub bite-none : (N b x : ℕ) (c : Rec) → N ≤ 64 → Inside N c → x ≡ lands (bite b c) → x ≡ 255 → bite b c ≡ []
+bite-none N b x (range lo hi n) few i e h = none-of b n (leb lo b && leb b hi) x (omega arith) e h
+bite-none N b x (mask bits n) few i e h = none-of b n (eqb (bit bits b) 1) x (omega arith) e h
+bite-none N b x (fork p q) few i e h = refl
+bite-none N b x (tag t n) few i e h = refl
+bite-none N b x (end a) few i e h = refl
+
+module _ (k : ℕ) (A : Net) (b : ℕ) (e : Entry) where
+  pub eats-none : bite b (rec A (e .on)) ≡ [] → on-byte (tagged k) A b (thread-of e) ≡ []
+  unfolding on-byte thread-of
+  eats-none q = rw q
+
+  pub eats-one : {x : ℕ} → bite b (rec A (e .on)) ≡ (eat b, x) ∷ [] → (a : Entry) → a .on ≡ x → a .had ≡ e .had → on-byte (tagged k) A b (thread-of e) ≡ thread-of a ∷ []
+  unfolding on-byte thread-of
+  eats-one q a p1 p2 = rw (q, p1, p2)
+
+pub net-length : (f offs : List ℕ) → length (net f offs) ≡ length offs
+unfolding net
+net-length f offs = length-map offs (rec-at f)
+
+-- the two ways through `consume`
+module _ {F offs : List ℕ} (w : Formed F offs) (k b : ℕ) (e : Entry) (on : e .on < length offs) (x : ℕ) (lands-on : x ≡ lands (bite b (rec (net F offs) (e .on)))) (f : Found) where
+  pub ate-none : x ≡ 255 → (m : Marked Tags) → Means f m → Means f (foldl (marking (tagged k) (net F offs) (suc (length (net F offs)))) m (on-byte (tagged k) (net F offs) b (thread-of e)))
+  ate-none z m h =
+      let q = eats-none k (net F offs) b e (bite-none (length offs) b x (rec (net F offs) (e .on)) (w .few) (net-inside w (e .on) on) lands-on z) in
+      rw q h
+
+  module _ (z : x ≡ 255 → ⊥) (a : Entry) (p1 : a .on ≡ x) (p2 : a .had ≡ e .had) where
+    pub ate-in : a .on < length offs
+    ate-in = rw p1 (bite-some (length offs) b x (rec (net F offs) (e .on)) (net-inside w (e .on) on) lands-on z .1)
+
+    pub ate-one : (R : Found) → ((m : Marked Tags) → Means f m → Means R (marking (tagged k) (net F offs) (length offs + 1) m (thread-of a)))
+        → (m : Marked Tags) → Means f m → Means R (foldl (marking (tagged k) (net F offs) (suc (length (net F offs)))) m (on-byte (tagged k) (net F offs) b (thread-of e)))
+    ate-one R ih m h =
+        let q = eats-one k (net F offs) b e (bite-some (length offs) b x (rec (net F offs) (e .on)) (net-inside w (e .on) on) lands-on z .0) a p1 p2 in
+        let n : suc (length (net F offs)) ≡ length offs + 1 = omega (arith, net-length F offs) in
+        rw (q, n) (ih m h)
+
+-- over a list
+foldl-append : {A B : Type 0} (g : B → A → B) (z : B) (l k : List A) → foldl g z (l ++ k) ≡ foldl g (foldl g z l) k
+foldl-append g z [] k = refl
+foldl-append g z (x ∷ l) k = foldl-append g (g z x) l k
+
+pub one-more : {B : Type 0} (g : B → Thread Tags → B) (z : B) (h : Thread Tags → List (Thread Tags)) (l : List Entry) (i : ℕ) (d : Entry) → i < length l
+    → foldl g z (each h (map thread-of (take (i + 1) l))) ≡ foldl g (foldl g z (each h (map thread-of (take i l)))) (h (thread-of (getD l i d)))
+one-more g z h l i d b =
+    ap (λ v. foldl g z (each h (map thread-of v))) (ap (λ j. take j l) (add-one i) ∙ take-suc l i d b)
+    ∙ ap (λ v. foldl g z (each h v)) (map-append thread-of (take i l) (getD l i d ∷ []))
+    ∙ ap (λ v. foldl g z v) (each-append h (map thread-of (take i l)) (thread-of (getD l i d) ∷ []) ∙ ap (λ v. each h (map thread-of (take i l)) ++ v) (append-nil (h (thread-of (getD l i d)))))
+    ∙ foldl-append g z (each h (map thread-of (take i l))) (h (thread-of (getD l i d)))
+
+pub below-at : (N : ℕ) (l : List Entry) (n i : ℕ) (d : Entry) → n ≤ length l → i < n → Below N (map thread-of (take n l)) → getD l i d .on < N
+unfolding thread-of
+below-at N [] n i d s b h = absurd (omega arith)
+below-at N (x ∷ l) zero i d s b h = absurd (omega arith)
+below-at N (x ∷ l) (suc n) zero d s b h = h .0
+below-at N (x ∷ l) (suc n) (suc i) d s b h = below-at N l n i d (omega arith) (omega arith) (h .1)
+
+-- the end of `sweep`
+pub swept : (k : ℕ) (A : Net) (b : ℕ) (s f : Found) (i : ℕ) → i ≡ s .n
+    → Means f (foldl (marking (tagged k) A (suc (length A))) (record { marks = []; list = [] }) (each (on-byte (tagged k) A b) (map thread-of (take i (s .list)))))
+    → threads-of f ≡ step A k b (threads-of s)
+unfolding threads-of step marked-close
+swept k A b s f i z h =
+    h .list
+    ∙ ap (λ j. foldl (marking (tagged k) A (suc (length A))) (record { marks = []; list = [] }) (each (on-byte (tagged k) A b) (map thread-of (take j (s .list)))) .list) z
+    ∙ ap (λ v. v .list) (marked-right (tagged k) A (each (on-byte (tagged k) A b) (map thread-of (take (s .n) (s .list)))))
+
+pub fit-below : (N : ℕ) (f : Found) → Fit N f → Below N (map thread-of (take (f .n) (f .list)))
+unfolding threads-of
+fit-below N f h = h .below

@@ -1,0 +1,40 @@
+use mathlib.Core.Path.{_≡_, refl, sym, ap, _∙_}
+use mathlib.Core.List.{_∷_, []}
+use lib.ListN.{length, take}
+use native.Mathlib.Omega.{arith}
+use borrow.Author.Needs.{needs}
+use native.Mathlib.Numerals.{add-one}
+use lib.Seq.{take-suc-set}
+use Rattle.explore.specs.States.{thread-of, threads-of}
+use Rattle.explore.proofs.Bits.{map-append, unmapped}
+use Rattle.explore.proofs.Found.put.Statement.{statement}
+use Rattle.explore.proofs.Found.put.Tie as tie
+use Rattle.explore.proofs.Found.put.Reads as reads
+use Rattle.explore.proofs.Found.put.Lts as lts
+
+-- src/lib.rt:92:9
+mul-e : tie.Need-mul-e
+mul-e c = search needs
+
+-- src/lib.rt:92:9
+element-set-from-e : tie.Need-element-set-from-e
+element-set-from-e c = search needs
+
+-- src/lib.rt:93:18
+add-self : tie.Need-add-self
+add-self c = search needs
+
+-- src/lib.rt:87:5
+returns : tie.Need-returns
+unfolding threads-of
+returns c =
+    let len = unmapped _ (c .args .t1 .list) 64 (c .good .0 .1 .1 .1 .1 .0 .1 .0 .1) in
+    let one = take-suc-set (c .args .t1 .list) (c .args .t1 .n) (c .args .e) (omega arith) in
+    record {
+      marks = refl;
+      list = rw add-one (ap (λ v. mathlib.Core.List.map thread-of v) one) ∙ map-append thread-of (take (c .args .t1 .n) (c .args .t1 .list)) (c .args .e ∷ []);
+      count = refl;
+    }
+
+pub put-spec : {M : Type 1} → statement M
+put-spec = tie.close (tie.spec mul-e element-set-from-e add-self returns)

@@ -1,0 +1,11 @@
+-- What may follow a record with no byte. Assumes nothing.
+use Rattle.net.specs.Rec.{Rec, range, mask, fork, tag, end}
+use Rattle.explore.specs.declared.Onward.{Onward}
+use Rattle.explore.specs.declared.Onward.the-variants.{Stay, Both, Store}
+
+abbrev pub onward-of : Rec → Onward
+onward-of (range lo hi n) = Stay
+onward-of (mask bits n) = Stay
+onward-of (fork x y) = Both x y
+onward-of (tag t n) = Store t n
+onward-of (end a) = Stay
