@@ -1,1 +1,3 @@
 pub mod Card
+pub mod Writing
+pub mod Build

@@ -19,11 +19,15 @@ use Rattle.paths.specs.Registers.{Tags, tagged, standing, step}
 use Rattle.paths.specs.Marks.{Marked, marking, marked-close}
 use Rattle.paths.proofs.Marking.{marked-right}
 use Rattle.paths.proofs.Heart.{each-append}
-use Rattle.explore.specs.Items.{rec-at, net, Inside, Formed, lands}
+use Rattle.net.specs.Items.{rec-at, net-at}
+use Rattle.net.proofs.Inside.{net-length}
+use Rattle.explore.specs.Items.{Inside, Formed, lands}
 use Rattle.explore.specs.States.{Below, Fit, thread-of, threads-of, Ready, Means}
 use Rattle.explore.specs.declared.Entry.{Entry}
 use Rattle.explore.specs.declared.Found.{Found}
-use Rattle.explore.proofs.Reading.{at-range, at-mask, rec-net, net-inside}
+use Rattle.net.proofs.Reading.{at-range, at-mask}
+use Rattle.net.proofs.Inside.{rec-net}
+use Rattle.explore.proofs.Reading.{net-inside}
 use Rattle.explore.proofs.Bits.{map-append}
 
 module _ (b lo hi n : ℕ) where
@@ -90,26 +94,22 @@ module _ (k : ℕ) (A : Net) (b : ℕ) (e : Entry) where
   unfolding on-byte thread-of
   eats-one q a p1 p2 = rw (q, p1, p2)
 
-pub net-length : (f offs : List ℕ) → length (net f offs) ≡ length offs
-unfolding net
-net-length f offs = length-map offs (rec-at f)
-
 -- the two ways through `consume`
-module _ {F offs : List ℕ} (w : Formed F offs) (k b : ℕ) (e : Entry) (on : e .on < length offs) (x : ℕ) (lands-on : x ≡ lands (bite b (rec (net F offs) (e .on)))) (f : Found) where
-  pub ate-none : x ≡ 255 → (m : Marked Tags) → Means f m → Means f (foldl (marking (tagged k) (net F offs) (suc (length (net F offs)))) m (on-byte (tagged k) (net F offs) b (thread-of e)))
+module _ {F offs : List ℕ} (w : Formed F offs) (k b : ℕ) (e : Entry) (on : e .on < length offs) (x : ℕ) (lands-on : x ≡ lands (bite b (rec (net-at F offs) (e .on)))) (f : Found) where
+  pub ate-none : x ≡ 255 → (m : Marked Tags) → Means f m → Means f (foldl (marking (tagged k) (net-at F offs) (suc (length (net-at F offs)))) m (on-byte (tagged k) (net-at F offs) b (thread-of e)))
   ate-none z m h =
-      let q = eats-none k (net F offs) b e (bite-none (length offs) b x (rec (net F offs) (e .on)) (w .few) (net-inside w (e .on) on) lands-on z) in
+      let q = eats-none k (net-at F offs) b e (bite-none (length offs) b x (rec (net-at F offs) (e .on)) (w .few) (net-inside w (e .on) on) lands-on z) in
       rw q h
 
   module _ (z : x ≡ 255 → ⊥) (a : Entry) (p1 : a .on ≡ x) (p2 : a .had ≡ e .had) where
     pub ate-in : a .on < length offs
-    ate-in = rw p1 (bite-some (length offs) b x (rec (net F offs) (e .on)) (net-inside w (e .on) on) lands-on z .1)
+    ate-in = rw p1 (bite-some (length offs) b x (rec (net-at F offs) (e .on)) (net-inside w (e .on) on) lands-on z .1)
 
-    pub ate-one : (R : Found) → ((m : Marked Tags) → Means f m → Means R (marking (tagged k) (net F offs) (length offs + 1) m (thread-of a)))
-        → (m : Marked Tags) → Means f m → Means R (foldl (marking (tagged k) (net F offs) (suc (length (net F offs)))) m (on-byte (tagged k) (net F offs) b (thread-of e)))
+    pub ate-one : (R : Found) → ((m : Marked Tags) → Means f m → Means R (marking (tagged k) (net-at F offs) (length offs + 1) m (thread-of a)))
+        → (m : Marked Tags) → Means f m → Means R (foldl (marking (tagged k) (net-at F offs) (suc (length (net-at F offs)))) m (on-byte (tagged k) (net-at F offs) b (thread-of e)))
     ate-one R ih m h =
-        let q = eats-one k (net F offs) b e (bite-some (length offs) b x (rec (net F offs) (e .on)) (net-inside w (e .on) on) lands-on z .0) a p1 p2 in
-        let n : suc (length (net F offs)) ≡ length offs + 1 = omega (arith, net-length F offs) in
+        let q = eats-one k (net-at F offs) b e (bite-some (length offs) b x (rec (net-at F offs) (e .on)) (net-inside w (e .on) on) lands-on z .0) a p1 p2 in
+        let n : suc (length (net-at F offs)) ≡ length offs + 1 = omega (arith, net-length F offs) in
         rw (q, n) (ih m h)
 
 -- over a list

@@ -13,53 +13,59 @@ use Rattle.paths.specs.Ways.{Move, eat}
 use Rattle.paths.specs.Search.{Thread}
 use Rattle.ground.specs.Lists.{each}
 use Rattle.paths.specs.Situation.{bite, follow, on-byte, close}
-use Rattle.paths.specs.Registers.{Tags, tagged, registers, standing, step, number, next}
+use Rattle.paths.specs.Registers.{Tags, tagged, registers, standing, step, number, next, origins}
 use Rattle.paths.specs.Equal.{same-situation}
 use Rattle.paths.specs.Numbering.{among, put, once}
 use Rattle.paths.proofs.Member.{Bool-cases}
 use Rattle.paths.proofs.Builder.{situation-test}
-use Rattle.explore.specs.Items.{net, Inside, Formed, lands}
+use Rattle.net.specs.Items.{net-at}
+use Rattle.explore.specs.Items.{Inside, Formed, lands}
 use Rattle.explore.specs.States.{Below}
-use Rattle.explore.specs.Lists.{span}
-use Rattle.explore.specs.Explore.{Sit, Alike}
+use Rattle.paths.specs.Limits.{bytes}
+use Rattle.paths.specs.Limits.{Sit}
+use Rattle.explore.specs.Explore.{Alike}
 use Rattle.explore.proofs.Reading.{net-inside}
 use Rattle.explore.proofs.Biting.{bite-some, bite-none}
 use Rattle.explore.proofs.Exploration.{once-snoc}
 
-module _ {F offs : List ℕ} (w : Formed F offs) (b c : ℕ) (same : (r : ℕ) → r < length offs → lands (bite b (rec (net F offs) r)) ≡ lands (bite c (rec (net F offs) r))) (k : ℕ) where
-  byte-same : (s : Thread Tags) → s .on < length offs → on-byte (tagged k) (net F offs) b s ≡ on-byte (tagged k) (net F offs) c s
+module _ {F offs : List ℕ} (w : Formed F offs) (b c : ℕ) (same : (r : ℕ) → r < length offs → lands (bite b (rec (net-at F offs) r)) ≡ lands (bite c (rec (net-at F offs) r))) (k : ℕ) where
+  byte-same : (s : Thread Tags) → s .on < length offs → on-byte (tagged k) (net-at F offs) b s ≡ on-byte (tagged k) (net-at F offs) c s
   unfolding on-byte
-  byte-same s h = by (Bool-cases (eqb (lands (bite b (rec (net F offs) (s .on)))) 255))
+  byte-same s h = by (Bool-cases (eqb (lands (bite b (rec (net-at F offs) (s .on)))) 255))
     where
-      by : (eqb (lands (bite b (rec (net F offs) (s .on)))) 255 ≡ true) ⊎ (eqb (lands (bite b (rec (net F offs) (s .on)))) 255 ≡ false)
-          → follow (tagged k) (s .had) (bite b (rec (net F offs) (s .on))) ≡ follow (tagged k) (s .had) (bite c (rec (net F offs) (s .on)))
+      by : (eqb (lands (bite b (rec (net-at F offs) (s .on)))) 255 ≡ true) ⊎ (eqb (lands (bite b (rec (net-at F offs) (s .on)))) 255 ≡ false)
+          → follow (tagged k) (s .had) (bite b (rec (net-at F offs) (s .on))) ≡ follow (tagged k) (s .had) (bite c (rec (net-at F offs) (s .on)))
       by (inl e) =
-          let z = eqb-true (lands (bite b (rec (net F offs) (s .on)))) 255 e in
-          let p = bite-none (length offs) b (lands (bite b (rec (net F offs) (s .on)))) (rec (net F offs) (s .on)) (w .few) (net-inside w (s .on) h) refl z in
-          let q = bite-none (length offs) c (lands (bite b (rec (net F offs) (s .on)))) (rec (net F offs) (s .on)) (w .few) (net-inside w (s .on) h) (same (s .on) h) z in
+          let z = eqb-true (lands (bite b (rec (net-at F offs) (s .on)))) 255 e in
+          let p = bite-none (length offs) b (lands (bite b (rec (net-at F offs) (s .on)))) (rec (net-at F offs) (s .on)) (w .few) (net-inside w (s .on) h) refl z in
+          let q = bite-none (length offs) c (lands (bite b (rec (net-at F offs) (s .on)))) (rec (net-at F offs) (s .on)) (w .few) (net-inside w (s .on) h) (same (s .on) h) z in
           rw (p, q)
       by (inr e) =
-          let z = eqb-false (lands (bite b (rec (net F offs) (s .on)))) 255 e in
-          let p = bite-some (length offs) b (lands (bite b (rec (net F offs) (s .on)))) (rec (net F offs) (s .on)) (net-inside w (s .on) h) refl z .0 in
-          let q = bite-some (length offs) c (lands (bite b (rec (net F offs) (s .on)))) (rec (net F offs) (s .on)) (net-inside w (s .on) h) (same (s .on) h) z .0 in
+          let z = eqb-false (lands (bite b (rec (net-at F offs) (s .on)))) 255 e in
+          let p = bite-some (length offs) b (lands (bite b (rec (net-at F offs) (s .on)))) (rec (net-at F offs) (s .on)) (net-inside w (s .on) h) refl z .0 in
+          let q = bite-some (length offs) c (lands (bite b (rec (net-at F offs) (s .on)))) (rec (net-at F offs) (s .on)) (net-inside w (s .on) h) (same (s .on) h) z .0 in
           ap (follow (tagged k) (s .had)) p ∙ sym (ap (follow (tagged k) (s .had)) q)
 
-  each-same : (l : List (Thread Tags)) → Below (length offs) l → each (on-byte (tagged k) (net F offs) b) l ≡ each (on-byte (tagged k) (net F offs) c) l
+  each-same : (l : List (Thread Tags)) → Below (length offs) l → each (on-byte (tagged k) (net-at F offs) b) l ≡ each (on-byte (tagged k) (net-at F offs) c) l
   each-same [] h = refl
   each-same (s ∷ l) h = let p = byte-same s (h .0) in let q = each-same l (h .1) in λ i. p i ++ q i
 
-module _ {F offs : List ℕ} (w : Formed F offs) (b : ℕ) (a : Alike (net F offs) (length offs) b) (l : Sit) (h : Below (length offs) l) where
-  next-alike : next (net F offs) b l ≡ next (net F offs) (b - 1) l
+module _ {F offs : List ℕ} (w : Formed F offs) (b : ℕ) (a : Alike (net-at F offs) (length offs) b) (l : Sit) (h : Below (length offs) l) where
+  pub next-alike : next (net-at F offs) b l ≡ next (net-at F offs) (b - 1) l
   unfolding next step
-  next-alike = ap (λ v. number (standing (net F offs) (close (tagged (length (registers l))) (net F offs) v))) (each-same w b (b - 1) (a .same) (length (registers l)) l h)
+  next-alike = ap (λ v. number (standing (net-at F offs) (close (tagged (length (registers l))) (net-at F offs) v))) (each-same w b (b - 1) (a .same) (length (registers l)) l h)
 
-  pub skipped : (found : List Sit) → once same-situation found (map (λ b. next (net F offs) b l) (span 0 (b + 1))) ≡ once same-situation found (map (λ b. next (net F offs) b l) (span 0 b))
+  pub origins-alike : origins (net-at F offs) b l ≡ origins (net-at F offs) (b - 1) l
+  unfolding origins step
+  origins-alike = ap (λ v. map (λ k. k .1) (registers (standing (net-at F offs) (close (tagged (length (registers l))) (net-at F offs) v)))) (each-same w b (b - 1) (a .same) (length (registers l)) l h)
+
+  pub skipped : (found : List Sit) → once same-situation found (map (λ b. next (net-at F offs) b l) (bytes 0 (b + 1))) ≡ once same-situation found (map (λ b. next (net-at F offs) b l) (bytes 0 b))
   skipped found =
       let p = a .positive in
       let e : b ≡ b - 1 + 1 = omega arith in
-      let last = once-snoc found (λ b. next (net F offs) b l) (b - 1) in
-      let now = ap (λ n. once same-situation found (map (λ b. next (net F offs) b l) (span 0 n))) e ∙ last in
-      once-snoc found (λ b. next (net F offs) b l) b ∙ (λ i. put same-situation (now i) (next-alike i)) ∙ twice (once same-situation found (map (λ b. next (net F offs) b l) (span 0 (b - 1)))) (next (net F offs) (b - 1) l) ∙ sym now
+      let last = once-snoc found (λ b. next (net-at F offs) b l) (b - 1) in
+      let now = ap (λ n. once same-situation found (map (λ b. next (net-at F offs) b l) (bytes 0 n))) e ∙ last in
+      once-snoc found (λ b. next (net-at F offs) b l) b ∙ (λ i. put same-situation (now i) (next-alike i)) ∙ twice (once same-situation found (map (λ b. next (net-at F offs) b l) (bytes 0 (b - 1)))) (next (net-at F offs) (b - 1) l) ∙ sym now
     where
       self : (x : Sit) → same-situation x x ≡ true
       self x = situation-test x x .1 refl

@@ -20,8 +20,9 @@ use Rattle.paths.proofs.Member.{Bool-cases}
 use Rattle.explore.specs.States.{thread-of, threads-of, Below, Fit}
 use Rattle.explore.specs.Keys.{Is, Stepped, Begun}
 use Rattle.explore.specs.Slots.{row, thread-at, threads-at, slot, slots, Stored, Placed}
-use Rattle.explore.specs.Lists.{span}
-use Rattle.explore.specs.Explore.{Sit, Holds, Kept, Too-many-registers, Too-many-situations, Tries, Expands, first, here, partly, Stops, at-start, at-byte, Explores}
+use Rattle.paths.specs.Limits.{bytes}
+use Rattle.paths.specs.Limits.{Sit, Too-many-registers, Too-many-situations, first, here, partly, Stops, at-start, at-byte}
+use Rattle.explore.specs.Explore.{Holds, Kept, Tries, Expands, Explores}
 use Rattle.explore.specs.declared.Found.{Found}
 use Rattle.explore.specs.declared.Numbered.{Numbered}
 use Rattle.explore.specs.declared.Tried.{Tried}
@@ -122,9 +123,12 @@ module _ (A : Net) (N : ℕ) (w : List ℕ) (count : ℕ) (l : Sit) (b : ℕ) (k
           size = refl;
           fine = λ e. absurd (omega arith);
           regs = λ e. absurd (omega arith);
-          sits = λ _. record { most = omega (arith, slots-length w 0 count, k .most); new = missing j p c; needs = omega (arith, step .is .few o, step .is .count o) };
+          sits = λ _. record { most = omega (arith, slots-length w 0 count, k .most); new = missing j p c; needs = omega (arith, step .is .few o, step .is .count o); small = λ j d. by j (omega arith) };
           one-of = λ p q. refl;
         }
+      where
+        by : (j : ℕ) → j < count → length (registers (getD (slots w 0 count) j [])) ≤ 64
+        by j d = let z : 0 + j ≡ j = omega arith in rw (slots-at w 0 count j [] d ∙ ap (slot w) z) (k .holds j d .small)
 
     pub tried-new : (j : ℕ) → Placed w count (threads-of (t .sit)) j → count ≤ j → count < 96 → (w′ : List ℕ) → Stored w w′ count (threads-of (t .sit)) (t .regs .n) → Tries A N w w′ count l b (record { answer = 0; count = count + 1 })
     tried-new j p c f w′ s =
@@ -161,32 +165,32 @@ module _ (A : Net) (N : ℕ) (w : List ℕ) (count : ℕ) (l : Sit) (b : ℕ) (k
 
 -- ---- the loop over the bytes
 
-span-snoc : (n : ℕ) → span 0 (n + 1) ≡ span 0 n ++ (n ∷ [])
-unfolding span
-span-snoc n = ap (span 0) (add-one n) ∙ by 0 n ∙ (let z : 0 + n ≡ n = omega arith in ap (λ v. span 0 n ++ (v ∷ [])) z)
+bytes-snoc : (n : ℕ) → bytes 0 (n + 1) ≡ bytes 0 n ++ (n ∷ [])
+unfolding bytes
+bytes-snoc n = ap (bytes 0) (add-one n) ∙ by 0 n ∙ (let z : 0 + n ≡ n = omega arith in ap (λ v. bytes 0 n ++ (v ∷ [])) z)
   where
-    by : (j n : ℕ) → span j (suc n) ≡ span j n ++ ((j + n) ∷ [])
+    by : (j n : ℕ) → bytes j (suc n) ≡ bytes j n ++ ((j + n) ∷ [])
     by j zero = let z : j ≡ j + 0 = omega arith in ap (λ v. v ∷ []) z
-    by j (suc n) = ap (λ v. j ∷ v) (by (j + 1) n ∙ (let z : j + 1 + n ≡ j + suc n = omega arith in ap (λ v. span (j + 1) n ++ (v ∷ [])) z))
+    by j (suc n) = ap (λ v. j ∷ v) (by (j + 1) n ∙ (let z : j + 1 + n ≡ j + suc n = omega arith in ap (λ v. bytes (j + 1) n ++ (v ∷ [])) z))
 
-pub no-span : span 0 0 ≡ []
-unfolding span
-no-span = refl
+pub no-bytes : bytes 0 0 ≡ []
+unfolding bytes
+no-bytes = refl
 
 foldl-snoc : {A B : Type 0} (g : B → A → B) (z : B) (l : List A) (x : A) → foldl g z (l ++ (x ∷ [])) ≡ g (foldl g z l) x
 foldl-snoc g z [] x = refl
 foldl-snoc g z (y ∷ l) x = foldl-snoc g (g z y) l x
 
-pub once-snoc : (found : List Sit) (f : ℕ → Sit) (n : ℕ) → once same-situation found (map f (span 0 (n + 1))) ≡ put same-situation (once same-situation found (map f (span 0 n))) (f n)
+pub once-snoc : (found : List Sit) (f : ℕ → Sit) (n : ℕ) → once same-situation found (map f (bytes 0 (n + 1))) ≡ put same-situation (once same-situation found (map f (bytes 0 n))) (f n)
 once-snoc found f n =
-    ap (λ v. once same-situation found (map f v)) (span-snoc n) ∙ ap (once same-situation found) (map-append f (span 0 n) (n ∷ []))
-    ∙ foldl-snoc (put same-situation) found (map f (span 0 n)) (f n)
+    ap (λ v. once same-situation found (map f v)) (bytes-snoc n) ∙ ap (once same-situation found) (map-append f (bytes 0 n) (n ∷ []))
+    ∙ foldl-snoc (put same-situation) found (map f (bytes 0 n)) (f n)
 
-pub once-none : (found : List Sit) (f : ℕ → Sit) → found ≡ once same-situation found (map f (span 0 0))
-once-none found f = ap (λ v. once same-situation found (map f v)) (sym no-span)
+pub once-none : (found : List Sit) (f : ℕ → Sit) → found ≡ once same-situation found (map f (bytes 0 0))
+once-none found f = ap (λ v. once same-situation found (map f v)) (sym no-bytes)
 
 module _ (A : Net) (N : ℕ) (w₀ w w′ : List ℕ) (count n : ℕ) (l l₀ : Sit) (same : l ≡ l₀) (b : ℕ) (a : Tried) (size : length w ≡ length w₀)
-    (so-far : slots w 0 n ≡ once same-situation (slots w₀ 0 count) (map (λ b. next A b l) (span 0 b))) (t : Tries A N w w′ n l b a) where
+    (so-far : slots w 0 n ≡ once same-situation (slots w₀ 0 count) (map (λ b. next A b l) (bytes 0 b))) (t : Tries A N w w′ n l b a) where
   pub expand-stop : b < 256 → (a .answer ≡ 0 → ⊥) → Expands A N w₀ w′ count l₀ a
   expand-stop c h =
       subst (λ v. Expands A N w₀ w′ count v a) same
@@ -198,16 +202,16 @@ module _ (A : Net) (N : ℕ) (w₀ w w′ : List ℕ) (count n : ℕ) (l l₀ : 
         one-of = t .one-of;
       })
 
-  pub expand-on : a .answer ≡ 0 → Kept N w′ (a .count) × (slots w′ 0 (a .count) ≡ once same-situation (slots w₀ 0 count) (map (λ b. next A b l) (span 0 (b + 1))))
+  pub expand-on : a .answer ≡ 0 → Kept N w′ (a .count) × (slots w′ 0 (a .count) ≡ once same-situation (slots w₀ 0 count) (map (λ b. next A b l) (bytes 0 (b + 1))))
   expand-on e = (t .fine e .0, t .fine e .1 ∙ ap (λ v. put same-situation v (next A b l)) so-far ∙ sym (once-snoc (slots w₀ 0 count) (λ b. next A b l) b))
 
 pub expanded : (A : Net) (N : ℕ) (w₀ w : List ℕ) (count n : ℕ) (l l₀ : Sit) → l ≡ l₀ → (b : ℕ) → b ≡ 256 → length w ≡ length w₀ → Kept N w n
-    → slots w 0 n ≡ once same-situation (slots w₀ 0 count) (map (λ b. next A b l) (span 0 b)) → Expands A N w₀ w count l₀ (record { answer = 0; count = n })
+    → slots w 0 n ≡ once same-situation (slots w₀ 0 count) (map (λ b. next A b l) (bytes 0 b)) → Expands A N w₀ w count l₀ (record { answer = 0; count = n })
 expanded A N w₀ w count n l l₀ same b e size k h =
     subst (λ v. Expands A N w₀ w count v (record { answer = 0; count = n })) same
     (record {
       size = size;
-      fine = λ _. (k, h ∙ ap (λ v. once same-situation (slots w₀ 0 count) (map (λ b. next A b l) (span 0 v))) e);
+      fine = λ _. (k, h ∙ ap (λ v. once same-situation (slots w₀ 0 count) (map (λ b. next A b l) (bytes 0 v))) e);
       regs = λ e. absurd (omega arith);
       sits = λ e. absurd (omega arith);
       one-of = λ p q. absurd (p refl);
@@ -232,12 +236,12 @@ once-longer : (l found : List Sit) → length found ≤ length (once same-situat
 once-longer [] found = omega arith
 once-longer (s ∷ l) found = let a = put-longer found s in let b = once-longer l (put same-situation found s) in omega arith
 
-pub first-more : (A : Net) (i : ℕ) → i < length (first A i) → first A (i + 1) ≡ once same-situation (first A i) (map (λ b. next A b (here A i)) (span 0 256))
+pub first-more : (A : Net) (i : ℕ) → i < length (first A i) → first A (i + 1) ≡ once same-situation (first A i) (map (λ b. next A b (here A i)) (bytes 0 256))
 unfolding explored
 first-more A i b =
     ap (first A) (add-one i)
-    ∙ ap (λ v. once same-situation (first A i) (each (nexts same-situation (span 0 256) (next A)) (take 1 v))) (drop-cons (first A i) i [] b)
-    ∙ ap (once same-situation (first A i)) (append-nil (map (λ b. next A b (here A i)) (span 0 256)))
+    ∙ ap (λ v. once same-situation (first A i) (each (nexts same-situation (bytes 0 256) (next A)) (take 1 v))) (drop-cons (first A i) i [] b)
+    ∙ ap (once same-situation (first A i)) (append-nil (map (λ b. next A b (here A i)) (bytes 0 256)))
 
 module _ (A : Net) (N : ℕ) (w₀ w w′ : List ℕ) (count i : ℕ) (a : Tried) (size : length w ≡ length w₀) (so-far : slots w 0 count ≡ first A i) (b : i < count) (x : Expands A N w w′ count (slot w i) a) where
   in-first : i < length (first A i)
@@ -246,8 +250,8 @@ module _ (A : Net) (N : ℕ) (w₀ w w′ : List ℕ) (count i : ℕ) (a : Tried
   slot-here : slot w i ≡ here A i
   slot-here = sym (slots-at w 0 count i [] b ∙ (let z : 0 + i ≡ i = omega arith in ap (slot w) z)) ∙ ap (λ v. getD v i []) so-far
 
-  partly-is : (c : ℕ) → once same-situation (slots w 0 count) (map (λ b. next A b (slot w i)) (span 0 c)) ≡ partly A i c
-  partly-is c = λ k. once same-situation (so-far k) (map (λ b. next A b (slot-here k)) (span 0 c))
+  partly-is : (c : ℕ) → once same-situation (slots w 0 count) (map (λ b. next A b (slot w i)) (bytes 0 c)) ≡ partly A i c
+  partly-is c = λ k. once same-situation (so-far k) (map (λ b. next A b (slot-here k)) (bytes 0 c))
 
   pub explore-stop : (a .answer ≡ 0 → ⊥) → Explores A N w₀ w′ a
   explore-stop h =
@@ -259,16 +263,16 @@ module _ (A : Net) (N : ℕ) (w₀ w w′ : List ℕ) (count i : ℕ) (a : Tried
         one-of = x .one-of;
       }
     where
-      λ-to : (r : (b : ℕ) × ((b < 256) × Too-many-registers (once same-situation (slots w 0 count) (map (λ b. next A b (slot w i)) (span 0 b))) (next A b (slot w i)))) → Too-many-registers (partly A i (r .0)) (next A (r .0) (here A i))
+      λ-to : (r : (b : ℕ) × ((b < 256) × Too-many-registers (once same-situation (slots w 0 count) (map (λ b. next A b (slot w i)) (bytes 0 b))) (next A b (slot w i)))) → Too-many-registers (partly A i (r .0)) (next A (r .0) (here A i))
       λ-to r = subst (λ v. Too-many-registers (partly A i (r .0)) (next A (r .0) v)) slot-here (subst (λ v. Too-many-registers v (next A (r .0) (slot w i))) (partly-is (r .0)) (r .1 .1))
 
-      λ-to2 : (r : (b : ℕ) × ((b < 256) × Too-many-situations (once same-situation (slots w 0 count) (map (λ b. next A b (slot w i)) (span 0 b))) (next A b (slot w i)))) → Too-many-situations (partly A i (r .0)) (next A (r .0) (here A i))
+      λ-to2 : (r : (b : ℕ) × ((b < 256) × Too-many-situations (once same-situation (slots w 0 count) (map (λ b. next A b (slot w i)) (bytes 0 b))) (next A b (slot w i)))) → Too-many-situations (partly A i (r .0)) (next A (r .0) (here A i))
       λ-to2 r = subst (λ v. Too-many-situations (partly A i (r .0)) (next A (r .0) v)) slot-here (subst (λ v. Too-many-situations v (next A (r .0) (slot w i))) (partly-is (r .0)) (r .1 .1))
 
   pub explore-on : a .answer ≡ 0 → Kept N w′ (a .count) × ((slots w′ 0 (a .count) ≡ first A (i + 1)) × (count ≤ a .count))
   explore-on e =
       let f = x .fine e in
-      let n : length (slots w 0 count) ≤ length (once same-situation (slots w 0 count) (map (λ b. next A b (slot w i)) (span 0 256))) = once-longer (map (λ b. next A b (slot w i)) (span 0 256)) (slots w 0 count) in
+      let n : length (slots w 0 count) ≤ length (once same-situation (slots w 0 count) (map (λ b. next A b (slot w i)) (bytes 0 256))) = once-longer (map (λ b. next A b (slot w i)) (bytes 0 256)) (slots w 0 count) in
       (f .0, (f .1 ∙ partly-is 256 ∙ sym (first-more A i in-first), omega (arith, slots-length w 0 count, slots-length w′ 0 (a .count), ap length (f .1))))
 
 pub explored-all-of : (A : Net) (N : ℕ) (w₀ w : List ℕ) (count i : ℕ) → i ≡ count → length w ≡ length w₀ → Kept N w count → slots w 0 count ≡ first A i → Explores A N w₀ w (record { answer = 0; count = count })

@@ -22,7 +22,8 @@ use Rattle.explore.specs.declared.Entry.{Entry}
 use Rattle.explore.specs.declared.Found.{Found}
 use Rattle.explore.specs.declared.Onward.{Onward}
 use Rattle.explore.specs.declared.Onward.the-variants.{Stay, Both, Store}
-use Rattle.explore.specs.Items.{net, Formed}
+use Rattle.net.specs.Items.{net-at}
+use Rattle.explore.specs.Items.{Formed}
 use Rattle.explore.proofs.Reading.{net-inside}
 use Rattle.explore.proofs.Bits.{map-set, has-last, has-else}
 
@@ -169,11 +170,11 @@ module _ (N : ℕ) (f g : Found) (r : ℕ) (h : Ready N f) (new : marked (f .mar
         }
 
 module _ {F offs : List ℕ} (w : Formed F offs) (r : ℕ) (b : r < length offs) where
-  pub both-inside : {x y : ℕ} → Both x y ≡ onward-of (rec (net F offs) r) → (x < length offs) × (y < length offs)
-  both-inside e = rw (way-both (rec (net F offs) r) e) at (net-inside w r b)
+  pub both-inside : {x y : ℕ} → Both x y ≡ onward-of (rec (net-at F offs) r) → (x < length offs) × (y < length offs)
+  both-inside e = rw (way-both (rec (net-at F offs) r) e) at (net-inside w r b)
 
-  pub store-inside : {x y : ℕ} → Store x y ≡ onward-of (rec (net F offs) r) → (x < 8) × (y < length offs)
-  store-inside e = rw (way-store (rec (net F offs) r) e) at (net-inside w r b)
+  pub store-inside : {x y : ℕ} → Store x y ≡ onward-of (rec (net-at F offs) r) → (x < 8) × (y < length offs)
+  store-inside e = rw (way-store (rec (net-at F offs) r) e) at (net-inside w r b)
 
 -- nothing yet
 module _ (f : Found) (z : f .n ≡ 0) where

@@ -8,29 +8,15 @@ use lib.Dec.{eqb}
 use lib.ListN.{length, getD, take, drop}
 use borrow.Author.Tests.{eq-eqb, ne-eqb}
 use Rattle.net.specs.Rec.{Rec, range, mask, fork, tag, end, Net, rec}
-use Rattle.explore.specs.Items.{rec-of, rec-at, net, size, Inside, Formed}
+use Rattle.net.specs.Items.{rec-of, rec-at, net-at, size}
+use Rattle.explore.specs.Items.{Inside, Formed}
+use Rattle.net.proofs.Inside.{rec-net}
 use Rattle.explore.specs.Onward.{onward-of}
 use Rattle.explore.specs.declared.Onward.{Onward}
 use Rattle.explore.specs.declared.Onward.the-variants.{Stay, Both, Store}
 use Rattle.explore.proofs.Bits.{getD-map}
 
 module _ (f : List ℕ) (at : ℕ) where
-  pub at-fork : getD f at 0 ≡ 19 → rec-at f at ≡ fork (getD f (at + 1) 0) (getD f (at + 2) 0)
-  unfolding rec-at
-  at-fork e = rw e
-
-  pub at-tag : getD f at 0 ≡ 20 → rec-at f at ≡ tag (getD f (at + 1) 0) (getD f (at + 2) 0)
-  unfolding rec-at
-  at-tag e = rw e
-
-  pub at-range : getD f at 0 ≡ 17 → rec-at f at ≡ range (getD f (at + 1) 0) (getD f (at + 2) 0) (getD f (at + 3) 0)
-  unfolding rec-at
-  at-range e = rw e
-
-  pub at-mask : getD f at 0 ≡ 18 → rec-at f at ≡ mask (take 32 (drop (at + 1) f)) (getD f (at + 33) 0)
-  unfolding rec-at
-  at-mask e = rw e
-
   pub at-stay : (getD f at 0 ≡ 19 → ⊥) → (getD f at 0 ≡ 20 → ⊥) → onward-of (rec-at f at) ≡ Stay
   unfolding rec-at
   at-stay h g = rw (ne-eqb (getD f at 0) 19 h, ne-eqb (getD f at 0) 20 g) (by (eqb (getD f at 0) 17) (eqb (getD f at 0) 18) _ _ _ _ _ _)
@@ -40,9 +26,9 @@ module _ (f : List ℕ) (at : ℕ) where
       by false true x y z n w bits = refl
       by false false x y z n w bits = refl
 
-pub rec-net : (f offs : List ℕ) (r : ℕ) → r < length offs → rec (net f offs) r ≡ rec-at f (getD offs r 0)
-unfolding net
-rec-net f offs r h = getD-map (rec-at f) offs r 0 (mask [] 0) h
+pub at-end : (f : List ℕ) (at : ℕ) → (getD f at 0 ≡ 17 → ⊥) → (getD f at 0 ≡ 18 → ⊥) → (getD f at 0 ≡ 19 → ⊥) → (getD f at 0 ≡ 20 → ⊥) → rec-at f at ≡ end (getD f (at + 1) 0)
+unfolding rec-at
+at-end f at a b c d = rw (ne-eqb (getD f at 0) 17 a, ne-eqb (getD f at 0) 18 b, ne-eqb (getD f at 0) 19 c, ne-eqb (getD f at 0) 20 d)
 
 -- where its bytes stand
 module _ {f offs : List ℕ} (w : Formed f offs) (r : ℕ) (b : r < length offs) where
@@ -70,5 +56,5 @@ module _ {f offs : List ℕ} (w : Formed f offs) (r : ℕ) (b : r < length offs)
   pub mask-in : getD f (getD offs r 0) 0 ≡ 18 → getD offs r 0 + 33 < length f
   mask-in e = let h : getD offs r 0 + 34 ≤ length f = rw e at (w .whole r b) in omega arith
 
-  pub net-inside : Inside (length offs) (rec (net f offs) r)
+  pub net-inside : Inside (length offs) (rec (net-at f offs) r)
   net-inside = rw (rec-net f offs r b) (w .inside r b)

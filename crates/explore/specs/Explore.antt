@@ -7,7 +7,7 @@ use lib.ListN.{length, getD}
 use Prim.Native.Nat.{_-_}
 use Rattle.net.specs.Rec.{Net, rec}
 use Rattle.paths.specs.Situation.{bite}
-use Rattle.explore.specs.Lists.{span}
+use Rattle.paths.specs.Limits.{Sit, bytes, first, here, partly, Too-many-registers, Too-many-situations, Stops}
 use Rattle.explore.specs.Items.{lands}
 use Rattle.paths.specs.Search.{Thread}
 use Rattle.paths.specs.Registers.{Tags, registers, next, situation}
@@ -16,9 +16,6 @@ use Rattle.paths.specs.Numbering.{among, put, once, explored}
 use Rattle.explore.specs.States.{Below}
 use Rattle.explore.specs.Slots.{slot, slots}
 use Rattle.explore.specs.declared.Tried.{Tried}
-
-abbrev pub Sit : Type 0
-Sit = List (Thread Tags)
 
 -- a slot holds a situation with at most 64 registers, and their count
 pub record Holds (N : ℕ) (w : List ℕ) (j : ℕ) : Type 0 where
@@ -32,16 +29,6 @@ pub record Kept (N : ℕ) (w : List ℕ) (count : ℕ) : Type 0 where
   pub most : count ≤ 96
   pub holds : (j : ℕ) → j < count → Holds N w j
 
--- from `found`, 96 at most, s comes next: it needs more than 64 registers; or it is the 97th
-pub record Too-many-registers (found : List Sit) (s : Sit) : Type 0 where
-  pub most : length found ≤ 96
-  pub needs : 64 < length (registers s)
-
-pub record Too-many-situations (found : List Sit) (s : Sit) : Type 0 where
-  pub most : length found ≡ 96
-  pub new : among same-situation s found ≡ false
-  pub needs : length (registers s) ≤ 64
-
 -- the state s, after `found`
 pub record Tries (A : Net) (N : ℕ) (w w′ : List ℕ) (count : ℕ) (l : Sit) (b : ℕ) (a : Tried) : Type 0 where
   pub size : length w′ ≡ length w
@@ -53,25 +40,10 @@ pub record Tries (A : Net) (N : ℕ) (w w′ : List ℕ) (count : ℕ) (l : Sit)
 -- all bytes from l, after `found`
 pub record Expands (A : Net) (N : ℕ) (w w′ : List ℕ) (count : ℕ) (l : Sit) (a : Tried) : Type 0 where
   pub size : length w′ ≡ length w
-  pub fine : a .answer ≡ 0 → Kept N w′ (a .count) × (slots w′ 0 (a .count) ≡ once same-situation (slots w 0 count) (map (λ b. next A b l) (span 0 256)))
-  pub regs : a .answer ≡ 10 → (b : ℕ) × ((b < 256) × Too-many-registers (once same-situation (slots w 0 count) (map (λ b. next A b l) (span 0 b))) (next A b l))
-  pub sits : a .answer ≡ 11 → (b : ℕ) × ((b < 256) × Too-many-situations (once same-situation (slots w 0 count) (map (λ b. next A b l) (span 0 b))) (next A b l))
+  pub fine : a .answer ≡ 0 → Kept N w′ (a .count) × (slots w′ 0 (a .count) ≡ once same-situation (slots w 0 count) (map (λ b. next A b l) (bytes 0 256)))
+  pub regs : a .answer ≡ 10 → (b : ℕ) × ((b < 256) × Too-many-registers (once same-situation (slots w 0 count) (map (λ b. next A b l) (bytes 0 b))) (next A b l))
+  pub sits : a .answer ≡ 11 → (b : ℕ) × ((b < 256) × Too-many-situations (once same-situation (slots w 0 count) (map (λ b. next A b l) (bytes 0 b))) (next A b l))
   pub one-of : (a .answer ≡ 0 → ⊥) → (a .answer ≡ 10 → ⊥) → a .answer ≡ 11
-
--- the first situations, once those before i have been gone through; the i-th of them; and then those that its bytes below b lead to
-abbrev pub first : Net → ℕ → List Sit
-first A i = explored same-situation (span 0 256) (next A) (situation A []) i
-
-abbrev pub here : Net → ℕ → Sit
-here A i = getD (first A i) i []
-
-abbrev pub partly : Net → ℕ → ℕ → List Sit
-partly A i b = once same-situation (first A i) (map (λ b. next A b (here A i)) (span 0 b))
-
--- where the exploration stops: at the situation of the empty input, or at one that a byte leads to
-pub data Stops (A : Net) (P : List Sit → Sit → Type 0) : Type 0 where
-  at-start : P [] (situation A []) → Stops A P
-  at-byte : (i b : ℕ) → i < length (first A i) → b < 256 → P (partly A i b) (next A b (here A i)) → Stops A P
 
 -- the whole exploration
 pub record Explores (A : Net) (N : ℕ) (w w′ : List ℕ) (a : Tried) : Type 0 where

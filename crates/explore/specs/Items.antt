@@ -1,29 +1,13 @@
--- The records of an automaton file, read straight from its bytes at an offset. Assumes nothing.
+-- What is known of the records of an automaton file, read straight from its bytes at an offset. Assumes nothing.
 use mathlib.Core.Path.{_≡_}
 use mathlib.Core.Bool.{Bool, true, false, cond}
 use mathlib.Core.List.{List, [], _∷_, _++_, map}
 use Prim.Native.Nat.{ℕ, _+_, _≤_, _<_}
 use lib.Dec.{eqb}
 use lib.ListN.{length, getD, take, drop}
+use Rattle.net.specs.Items.{size, rec-at}
 use Rattle.net.specs.Rec.{Rec, range, mask, fork, tag, end, Net}
 use Rattle.paths.specs.Ways.{Move}
-
-abbrev pub rec-of : ℕ → ℕ → ℕ → ℕ → List ℕ → ℕ → Rec
-rec-of k a b c bits n =
-    cond (eqb k 17) (range a b c) (cond (eqb k 18) (mask bits n) (cond (eqb k 19) (fork a b) (cond (eqb k 20) (tag a b) (end a))))
-
--- the record whose kind byte stands at `at`
-unfoldable pub rec-at : List ℕ → ℕ → Rec
-rec-at f at =
-    rec-of (getD f at 0) (getD f (at + 1) 0) (getD f (at + 2) 0) (getD f (at + 3) 0) (take 32 (drop (at + 1) f)) (getD f (at + 33) 0)
-
--- the automaton of a file and the offsets of its records
-unfoldable pub net : List ℕ → List ℕ → Net
-net f offs = map (rec-at f) offs
-
--- how many bytes an item has, by its kind
-abbrev pub size : ℕ → ℕ
-size k = cond (eqb k 17) 4 (cond (eqb k 18) 34 (cond (eqb k 21) 2 3))
 
 -- every number in it is in range
 abbrev pub Inside : ℕ → Rec → Type 0

@@ -14,9 +14,10 @@ ghost use Prim.Native.Nat.{ℕ, _+_, _<_, _≤_};
 ghost use lib.ListN.{length, getD, set};
 ghost use Rattle.paths.specs.Registers.{Tags, tagged};
 ghost use Rattle.paths.specs.Marks.{Marked, marking};
-ghost use Rattle.explore.specs.Items.{net, Formed, lands};
+ghost use Rattle.net.specs.Items.{net-at};
+ghost use Rattle.explore.specs.Items.{Formed, lands};
 ghost use Rattle.net.specs.Rec.{rec};
-ghost use Rattle.explore.specs.Onward.{onward-of};
+ghost use Rattle.explore.specs.Onward.{onward-of, closing-of};
 ghost use Rattle.explore.specs.States.{thread-of, threads-of, marked, count-of, Marked-by, Fit, Ready, Means, Put, tags-of};
 
 // From the records of an automaton file to its situations, in the lent work memory. States go by value.
@@ -117,12 +118,12 @@ pub enum Onward {
     Store(u8, u8),
 }
 
-pub fn onward_at(file: &[u8], offs: &[u16], r: u8) -> Onward
+pub fn onward_at(file: &[u8], offs: &[usize], r: u8) -> Onward
     requires { ⌜ Formed (now file) (now offs) ⌝ }
     requires { ⌜ r < length (now offs) ⌝ }
-    ensures { λ a. ⌜ a ≡ onward-of (rec (net (now (file .entry)) (now (offs .entry))) r) ⌝ }
+    ensures { λ a. ⌜ a ≡ onward-of (rec (net-at (now (file .entry)) (now (offs .entry))) r) ⌝ }
 {
-    let at = offs[r as usize] as usize;
+    let at = offs[r as usize];
     let kind = file[at];
     if kind == 19 {
         return Onward::Both(file[at + 1], file[at + 2]);
@@ -134,11 +135,11 @@ pub fn onward_at(file: &[u8], offs: &[u16], r: u8) -> Onward
 }
 
 // Depth first from e, with what has been found.
-pub fn visit(file: &[u8], offs: &[u16], stamp: u8, f: Found, e: Entry, fuel: usize) -> Found
+pub fn visit(file: &[u8], offs: &[usize], stamp: u8, f: Found, e: Entry, fuel: usize) -> Found
     requires { ⌜ Formed (now file) (now offs) ⌝ }
     requires { ⌜ Ready (length (now offs)) f ⌝ }
     requires { ⌜ (e .on < length (now offs)) × (stamp < 255) ⌝ }
-    ensures { λ a. ⌜ Ready (length (now (offs .entry))) a × ((m : Marked Tags) → Means f m → Means a (marking (tagged stamp) (net (now (file .entry)) (now (offs .entry))) fuel m (thread-of e))) ⌝ }
+    ensures { λ a. ⌜ Ready (length (now (offs .entry))) a × ((m : Marked Tags) → Means f m → Means a (marking (tagged stamp) (net-at (now (file .entry)) (now (offs .entry))) fuel m (thread-of e))) ⌝ }
 {
     if fuel == 0 {
         return f;
@@ -160,13 +161,41 @@ pub fn visit(file: &[u8], offs: &[u16], stamp: u8, f: Found, e: Entry, fuel: usi
     }
 }
 
-// The record that byte b leads to from record r, or 255.
-pub fn bite_at(file: &[u8], offs: &[u16], r: u8, b: u8) -> u8
+// Whether a record is an END, and its answer.
+pub enum Closing {
+    Open,
+    With(u8),
+}
+
+pub fn end_at(file: &[u8], offs: &[usize], r: u8) -> Closing
     requires { ⌜ Formed (now file) (now offs) ⌝ }
     requires { ⌜ r < length (now offs) ⌝ }
-    ensures { λ a. ⌜ a ≡ lands (bite b (rec (net (now (file .entry)) (now (offs .entry))) r)) ⌝ }
+    ensures { λ a. ⌜ a ≡ closing-of (rec (net-at (now (file .entry)) (now (offs .entry))) r) ⌝ }
 {
-    let at = offs[r as usize] as usize;
+    let at = offs[r as usize];
+    let kind = file[at];
+    if kind == 17 {
+        return Closing::Open;
+    }
+    if kind == 18 {
+        return Closing::Open;
+    }
+    if kind == 19 {
+        return Closing::Open;
+    }
+    if kind == 20 {
+        return Closing::Open;
+    }
+    Closing::With(file[at + 1])
+}
+
+// The record that byte b leads to from record r, or 255.
+pub fn bite_at(file: &[u8], offs: &[usize], r: u8, b: u8) -> u8
+    requires { ⌜ Formed (now file) (now offs) ⌝ }
+    requires { ⌜ r < length (now offs) ⌝ }
+    ensures { λ a. ⌜ a ≡ lands (bite b (rec (net-at (now (file .entry)) (now (offs .entry))) r)) ⌝ }
+{
+    let at = offs[r as usize];
     let kind = file[at];
     if kind == 17 {
         let lo = file[at + 1];
@@ -190,11 +219,11 @@ pub fn bite_at(file: &[u8], offs: &[u16], r: u8, b: u8) -> u8
 }
 
 // What e leads to by byte b, after what has been found.
-pub fn consume(file: &[u8], offs: &[u16], stamp: u8, f: Found, e: Entry, b: u8) -> Found
+pub fn consume(file: &[u8], offs: &[usize], stamp: u8, f: Found, e: Entry, b: u8) -> Found
     requires { ⌜ Formed (now file) (now offs) ⌝ }
     requires { ⌜ Ready (length (now offs)) f ⌝ }
     requires { ⌜ (e .on < length (now offs)) × (stamp < 255) ⌝ }
-    ensures { λ a. ⌜ Ready (length (now (offs .entry))) a × ((m : Marked Tags) → Means f m → Means a (foldl (marking (tagged stamp) (net (now (file .entry)) (now (offs .entry))) (suc (length (net (now (file .entry)) (now (offs .entry)))))) m (on-byte (tagged stamp) (net (now (file .entry)) (now (offs .entry))) b (thread-of e)))) ⌝ }
+    ensures { λ a. ⌜ Ready (length (now (offs .entry))) a × ((m : Marked Tags) → Means f m → Means a (foldl (marking (tagged stamp) (net-at (now (file .entry)) (now (offs .entry))) (suc (length (net-at (now (file .entry)) (now (offs .entry)))))) m (on-byte (tagged stamp) (net-at (now (file .entry)) (now (offs .entry))) b (thread-of e)))) ⌝ }
 {
     let x = bite_at(file, offs, e.on, b);
     if x == 255 {
@@ -204,10 +233,10 @@ pub fn consume(file: &[u8], offs: &[u16], stamp: u8, f: Found, e: Entry, b: u8) 
 }
 
 // All threads of s that consume b, in order, and what they lead to.
-pub fn sweep(file: &[u8], offs: &[u16], stamp: u8, s: Found, b: u8) -> Found
+pub fn sweep(file: &[u8], offs: &[usize], stamp: u8, s: Found, b: u8) -> Found
     requires { ⌜ Formed (now file) (now offs) ⌝ }
     requires { ⌜ Fit (length (now offs)) s × (stamp < 255) ⌝ }
-    ensures { λ a. ⌜ Fit (length (now (offs .entry))) a × (threads-of a ≡ step (net (now (file .entry)) (now (offs .entry))) stamp b (threads-of s)) ⌝ }
+    ensures { λ a. ⌜ Fit (length (now (offs .entry))) a × (threads-of a ≡ step (net-at (now (file .entry)) (now (offs .entry))) stamp b (threads-of s)) ⌝ }
 {
     let n = s.n;
     let mut f = Found::new();
@@ -412,19 +441,19 @@ pub fn number_of(s: Found) -> Numbered
 }
 
 // The situation after one byte more, and where its registers come from. `count` is how many registers s has.
-pub fn next_of(file: &[u8], offs: &[u16], count: u8, s: Found, b: u8) -> Numbered
+pub fn next_of(file: &[u8], offs: &[usize], count: u8, s: Found, b: u8) -> Numbered
     requires { ⌜ Formed (now file) (now offs) ⌝ }
     requires { ⌜ Fit (length (now offs)) s × ((count ≡ length (registers (threads-of s))) × (count < 255)) ⌝ }
-    ensures { λ a. ⌜ Stepped (net (now (file .entry)) (now (offs .entry))) (length (now (offs .entry))) b (threads-of s) a ⌝ }
+    ensures { λ a. ⌜ Stepped (net-at (now (file .entry)) (now (offs .entry))) (length (now (offs .entry))) b (threads-of s) a ⌝ }
 {
     number_of(sweep(file, offs, count, s, b))
 }
 
 // The situation of the empty input.
-pub fn begin_of(file: &[u8], offs: &[u16]) -> Numbered
+pub fn begin_of(file: &[u8], offs: &[usize]) -> Numbered
     requires { ⌜ Formed (now file) (now offs) ⌝ }
     requires { ⌜ 0 < length (now offs) ⌝ }
-    ensures { λ a. ⌜ Begun (net (now (file .entry)) (now (offs .entry))) (length (now (offs .entry))) a ⌝ }
+    ensures { λ a. ⌜ Begun (net-at (now (file .entry)) (now (offs .entry))) (length (now (offs .entry))) a ⌝ }
 {
     let f = Found::new();
     let had = [255u8; 8];
@@ -554,7 +583,7 @@ pub struct Tried {
 // What byte b leads to from s, stored if it is new.
 pub fn try_byte(
     file: &[u8],
-    offs: &[u16],
+    offs: &[usize],
     work: &mut [u8],
     s: Found,
     regs: u8,
@@ -564,7 +593,7 @@ pub fn try_byte(
     requires { ⌜ Formed (now file) (now offs) ⌝ }
     requires { ⌜ Kept (length (now offs)) (now work) count ⌝ }
     requires { ⌜ Fit (length (now offs)) s × ((regs ≡ length (registers (threads-of s))) × (regs ≤ 64)) ⌝ }
-    ensures { λ a. ⌜ Tries (net (now (file .entry)) (now (offs .entry))) (length (now (offs .entry))) (now (work .entry)) (now (work .exit)) count (threads-of s) b a ⌝ }
+    ensures { λ a. ⌜ Tries (net-at (now (file .entry)) (now (offs .entry))) (length (now (offs .entry))) (now (work .entry)) (now (work .exit)) count (threads-of s) b a ⌝ }
 {
     let t = next_of(file, offs, regs, s, b);
     if t.over {
@@ -588,9 +617,9 @@ pub fn try_byte(
 }
 
 // Whether some record treats byte b in another way than the byte before it.
-pub fn fresh(file: &[u8], offs: &[u16], b: u8) -> bool
+pub fn fresh(file: &[u8], offs: &[usize], b: u8) -> bool
     requires { ⌜ Formed (now file) (now offs) ⌝ }
-    ensures { λ a. ⌜ (a ≡ false → Alike (net (now (file .entry)) (now (offs .entry))) (length (now (offs .entry))) b) ⌝ }
+    ensures { λ a. ⌜ (a ≡ false → Alike (net-at (now (file .entry)) (now (offs .entry))) (length (now (offs .entry))) b) ⌝ }
 {
     if b == 0 {
         return true;
@@ -606,10 +635,10 @@ pub fn fresh(file: &[u8], offs: &[u16], b: u8) -> bool
 }
 
 // What every byte leads to from situation i.
-pub fn expand(file: &[u8], offs: &[u16], work: &mut [u8], i: usize, count: usize) -> Tried
+pub fn expand(file: &[u8], offs: &[usize], work: &mut [u8], i: usize, count: usize) -> Tried
     requires { ⌜ Formed (now file) (now offs) ⌝ }
     requires { ⌜ Kept (length (now offs)) (now work) count × (i < count) ⌝ }
-    ensures { λ a. ⌜ Expands (net (now (file .entry)) (now (offs .entry))) (length (now (offs .entry))) (now (work .entry)) (now (work .exit)) count (slot (now (work .entry)) i) a ⌝ }
+    ensures { λ a. ⌜ Expands (net-at (now (file .entry)) (now (offs .entry))) (length (now (offs .entry))) (now (work .entry)) (now (work .exit)) count (slot (now (work .entry)) i) a ⌝ }
 {
     let s = load(work, i);
     let regs = work[578 * i + 1];
@@ -632,10 +661,10 @@ pub fn expand(file: &[u8], offs: &[u16], work: &mut [u8], i: usize, count: usize
 }
 
 // All situations, from slot 0 on.
-pub fn explore(file: &[u8], offs: &[u16], work: &mut [u8]) -> Tried
+pub fn explore(file: &[u8], offs: &[usize], work: &mut [u8]) -> Tried
     requires { ⌜ Formed (now file) (now offs) × (0 < length (now offs)) ⌝ }
     requires { ⌜ 65536 ≤ length (now work) ⌝ }
-    ensures { λ a. ⌜ Explores (net (now (file .entry)) (now (offs .entry))) (length (now (offs .entry))) (now (work .entry)) (now (work .exit)) a ⌝ }
+    ensures { λ a. ⌜ Explores (net-at (now (file .entry)) (now (offs .entry))) (length (now (offs .entry))) (now (work .entry)) (now (work .exit)) a ⌝ }
 {
     let t = begin_of(file, offs);
     if t.over {

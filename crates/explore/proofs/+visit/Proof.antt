@@ -1,3 +1,4 @@
+-- `explore::visit` meets its contract. Assumes nothing.
 use mathlib.Core.Path.{_≡_, refl, sym, ap, _∙_}
 use native.Mathlib.Omega.{arith}
 use borrow.Author.Needs.{needs}
@@ -26,7 +27,6 @@ visit-at t = and 2 visit-kinds.ps (is 2 visit-kinds.ps μ-visit t) visit.Pre
 abbrev visit-below : ℕ → In 2 visit-kinds.ps
 visit-below t = and 2 visit-kinds.ps (falls 2 visit-kinds.ps _<_ μ-visit t) visit.Pre
 
--- src/lib.rt:131:9
 visit-returns : (t : ℕ) → visit-lts.Need-returns (
   has-reads.Asked,
   has-reads.Learnt,
@@ -45,7 +45,6 @@ visit-returns : (t : ℕ) → visit-lts.Need-returns (
 ) (visit-at t) visit.Post
 visit-returns t c = (c .before .before .before .pre .1 .1 .0, went-none _ _ _ (c .if1 .taken) _ _)
 
--- src/lib.rt:135:8
 visit-has-requires : (t : ℕ) → visit-lts.Need-has-requires (
   has-reads.Asked,
   has-reads.Learnt,
@@ -64,7 +63,6 @@ visit-has-requires : (t : ℕ) → visit-lts.Need-has-requires (
 ) (visit-at t) visit.Post
 visit-has-requires t c κs = omega (arith, c .before .before .before .before .pre .1 .0 .few, c .before .before .before .before .pre .1 .1 .1 .0)
 
--- src/lib.rt:136:9
 visit-returns-2 : (t : ℕ) → visit-lts.Need-returns-2 (
   has-reads.Asked,
   has-reads.Learnt,
@@ -83,7 +81,6 @@ visit-returns-2 : (t : ℕ) → visit-lts.Need-returns-2 (
 ) (visit-at t) visit.Post
 visit-returns-2 t c = (c .before .before .before .before .before .before .pre .1 .1 .0, went-known _ _ _ (c .before .before .before .if1 .left) _ _ (omega (arith, c .before .before .before .before .before .before .pre .1 .0 .few, c .before .before .before .before .before .before .pre .1 .1 .1 .0)) (sym (c .before .has .ensures) ∙ c .if2 .taken))
 
--- src/lib.rt:138:9
 visit-noted-requires : (t : ℕ) → visit-lts.Need-noted-requires (
   has-reads.Asked,
   has-reads.Learnt,
@@ -102,7 +99,6 @@ visit-noted-requires : (t : ℕ) → visit-lts.Need-noted-requires (
 ) (visit-at t) visit.Post
 visit-noted-requires t c κs = omega (arith, c .before .before .before .before .before .before .pre .1 .0 .few, c .before .before .before .before .before .before .pre .1 .1 .1 .0)
 
--- src/lib.rt:139:9
 visit-onward-at-requires : (t : ℕ) → visit-lts.Need-onward-at-requires (
   has-reads.Asked,
   has-reads.Learnt,
@@ -121,7 +117,6 @@ visit-onward-at-requires : (t : ℕ) → visit-lts.Need-onward-at-requires (
 ) (visit-at t) visit.Post
 visit-onward-at-requires t c κs = (c .before .before .before .before .before .before .before .pre .1 .0, c .before .before .before .before .before .before .before .pre .1 .1 .1 .0)
 
--- src/lib.rt:141:19
 visit-enum-known-w : (t : ℕ) → visit-lts.Need-enum-known-w (
   has-reads.Asked,
   has-reads.Learnt,
@@ -140,7 +135,6 @@ visit-enum-known-w : (t : ℕ) → visit-lts.Need-enum-known-w (
 ) (visit-at t) visit.Post
 visit-enum-known-w t c = search needs
 
--- src/lib.rt:142:49
 visit-moved-requires : (t : ℕ) → visit-lts.Need-moved-requires (
   has-reads.Asked,
   has-reads.Learnt,
@@ -159,7 +153,6 @@ visit-moved-requires : (t : ℕ) → visit-lts.Need-moved-requires (
 ) (visit-at t) visit.Post
 visit-moved-requires t c κs = search needs
 
--- src/lib.rt:142:61
 visit-sub-visit : (t : ℕ) → visit-lts.Need-sub-visit (
   has-reads.Asked,
   has-reads.Learnt,
@@ -178,7 +171,6 @@ visit-sub-visit : (t : ℕ) → visit-lts.Need-sub-visit (
 ) (visit-at t) visit.Post
 visit-sub-visit t c = omega arith
 
--- src/lib.rt:142:17
 visit-visit-requires : (t : ℕ) → visit-lts.Need-visit-requires (
   has-reads.Asked,
   has-reads.Learnt,
@@ -200,7 +192,6 @@ visit-visit-requires t c κs =
     let i = both-inside (c .before .before .before .before .before .before .before .before .before .before .before .before .pre .1 .0) _ b (sym (c .before .before .w .given .1) ∙ c .before .before .before .before .onward-at .ensures) in
     (omega (arith, c .before .before .before .before .before .before .before .before .before .before .before .before .pre .0, c .before .before .before .before .before .before .before .before .before .if1 .left), (c .before .before .before .before .before .before .before .before .before .before .before .before .pre .1 .0, (ready-noted _ (c .before .before .before .before .before .before .before .before .before .before .before .before .args .f) (c .before .before .before .before .before .noted .result) (c .before .before .before .before .before .before .before .before .before .before .before .before .args .e .on) (c .before .before .before .before .before .before .before .before .before .before .before .before .pre .1 .1 .0) (sym (c .before .before .before .before .before .before .before .has .ensures) ∙ c .before .before .before .before .before .before .if2 .left) (c .before .before .before .before .before .noted .ensures .0) (c .before .before .before .before .before .noted .ensures .1 .0) (c .before .before .before .before .before .noted .ensures .1 .1), (rw (c .moved .ensures .0) (i .0), c .before .before .before .before .before .before .before .before .before .before .before .before .pre .1 .1 .1 .1))))
 
--- src/lib.rt:143:41
 visit-moved-requires-2 : (t : ℕ) → visit-lts.Need-moved-requires-2 (
   has-reads.Asked,
   has-reads.Learnt,
@@ -219,7 +210,6 @@ visit-moved-requires-2 : (t : ℕ) → visit-lts.Need-moved-requires-2 (
 ) (visit-at t) visit.Post
 visit-moved-requires-2 t c κs = search needs
 
--- src/lib.rt:143:53
 visit-sub-visit-2 : (t : ℕ) → visit-lts.Need-sub-visit-2 (
   has-reads.Asked,
   has-reads.Learnt,
@@ -238,7 +228,6 @@ visit-sub-visit-2 : (t : ℕ) → visit-lts.Need-sub-visit-2 (
 ) (visit-at t) visit.Post
 visit-sub-visit-2 t c = omega arith
 
--- src/lib.rt:143:13
 visit-visit-requires-2 : (t : ℕ) → visit-lts.Need-visit-requires-2 (
   has-reads.Asked,
   has-reads.Learnt,
@@ -260,7 +249,6 @@ visit-visit-requires-2 t c κs =
     let i = both-inside (c .before .before .before .before .before .before .before .before .before .before .before .before .before .before .pre .1 .0) _ b (sym (c .before .before .before .before .w .given .1) ∙ c .before .before .before .before .before .before .onward-at .ensures) in
     (omega (arith, c .before .before .before .before .before .before .before .before .before .before .before .before .before .before .pre .0, c .before .before .before .before .before .before .before .before .before .before .before .if1 .left), (c .before .before .before .before .before .before .before .before .before .before .before .before .before .before .pre .1 .0, (c .before .visit .ensures .0, (rw (c .moved2 .ensures .0) (i .1), c .before .before .before .before .before .before .before .before .before .before .before .before .before .before .pre .1 .1 .1 .1))))
 
--- src/lib.rt:145:20
 visit-enum-known-w-2 : (t : ℕ) → visit-lts.Need-enum-known-w-2 (
   has-reads.Asked,
   has-reads.Learnt,
@@ -279,7 +267,6 @@ visit-enum-known-w-2 : (t : ℕ) → visit-lts.Need-enum-known-w-2 (
 ) (visit-at t) visit.Post
 visit-enum-known-w-2 t c = search needs
 
--- src/lib.rt:145:57
 visit-tagged-requires : (t : ℕ) → visit-lts.Need-tagged-requires (
   has-reads.Asked,
   has-reads.Learnt,
@@ -299,7 +286,6 @@ visit-tagged-requires : (t : ℕ) → visit-lts.Need-tagged-requires (
 visit-tagged-requires t c κs =
     store-inside (c .before .before .before .before .before .before .before .before .before .before .before .pre .1 .0) _ (c .before .before .before .before .before .before .before .before .before .before .before .pre .1 .1 .1 .0) (sym (c .before .w2 .given .1) ∙ c .before .before .before .onward-at .ensures) .0
 
--- src/lib.rt:145:57
 visit-moved-requires-3 : (t : ℕ) → visit-lts.Need-moved-requires-3 (
   has-reads.Asked,
   has-reads.Learnt,
@@ -318,7 +304,6 @@ visit-moved-requires-3 : (t : ℕ) → visit-lts.Need-moved-requires-3 (
 ) (visit-at t) visit.Post
 visit-moved-requires-3 t c κs = search needs
 
--- src/lib.rt:145:86
 visit-sub-visit-3 : (t : ℕ) → visit-lts.Need-sub-visit-3 (
   has-reads.Asked,
   has-reads.Learnt,
@@ -337,7 +322,6 @@ visit-sub-visit-3 : (t : ℕ) → visit-lts.Need-sub-visit-3 (
 ) (visit-at t) visit.Post
 visit-sub-visit-3 t c = omega arith
 
--- src/lib.rt:145:29
 visit-visit-requires-3 : (t : ℕ) → visit-lts.Need-visit-requires-3 (
   has-reads.Asked,
   has-reads.Learnt,
@@ -359,7 +343,6 @@ visit-visit-requires-3 t c κs =
     let i = store-inside (c .before .before .before .before .before .before .before .before .before .before .before .before .before .pre .1 .0) _ b (sym (c .before .before .before .w2 .given .1) ∙ c .before .before .before .before .before .onward-at .ensures) in
     (omega (arith, c .before .before .before .before .before .before .before .before .before .before .before .before .before .pre .0, c .before .before .before .before .before .before .before .before .before .before .if1 .left), (c .before .before .before .before .before .before .before .before .before .before .before .before .before .pre .1 .0, (ready-noted _ (c .before .before .before .before .before .before .before .before .before .before .before .before .before .args .f) (c .before .before .before .before .before .before .noted .result) (c .before .before .before .before .before .before .before .before .before .before .before .before .before .args .e .on) (c .before .before .before .before .before .before .before .before .before .before .before .before .before .pre .1 .1 .0) (sym (c .before .before .before .before .before .before .before .before .has .ensures) ∙ c .before .before .before .before .before .before .before .if2 .left) (c .before .before .before .before .before .before .noted .ensures .0) (c .before .before .before .before .before .before .noted .ensures .1 .0) (c .before .before .before .before .before .before .noted .ensures .1 .1), (rw (c .moved3 .ensures .0) (i .1), c .before .before .before .before .before .before .before .before .before .before .before .before .before .pre .1 .1 .1 .1))))
 
--- src/lib.rt:146:22
 visit-enum-told : (t : ℕ) → visit-lts.Need-enum-told (
   has-reads.Asked,
   has-reads.Learnt,
@@ -378,7 +361,6 @@ visit-enum-told : (t : ℕ) → visit-lts.Need-enum-told (
 ) (visit-at t) visit.Post
 visit-enum-told t c = search needs
 
--- src/lib.rt:146:22
 visit-put-requires : (t : ℕ) → visit-lts.Need-put-requires (
   has-reads.Asked,
   has-reads.Learnt,
@@ -397,7 +379,6 @@ visit-put-requires : (t : ℕ) → visit-lts.Need-put-requires (
 ) (visit-at t) visit.Post
 visit-put-requires t c κs = room-after _ (c .before .before .before .before .before .before .before .before .before .before .args .f) (c .before .before .before .noted .result) (c .before .before .before .before .before .before .before .before .before .before .args .e .on) (c .before .before .before .before .before .before .before .before .before .before .pre .1 .1 .0) (sym (c .before .before .before .before .before .has .ensures) ∙ c .before .before .before .before .if2 .left) (c .before .before .before .noted .ensures .0) (c .before .before .before .noted .ensures .1 .0) .0
 
--- src/lib.rt:124:1
 visit-returns-3 : (t : ℕ) → visit-lts.Need-returns-3 (
   has-reads.Asked,
   has-reads.Learnt,
@@ -419,7 +400,6 @@ visit-returns-3 t c =
     let w = way-both _ (sym (c .before .before .before .before .before .w .given .1) ∙ c .before .before .before .before .before .before .before .onward-at .ensures) in
     (c .visit2 .ensures .0, went-both _ _ _ (c .before .before .before .before .before .before .before .before .before .before .before .before .if1 .left) _ _ _ (omega (arith, c .before .before .before .before .before .before .before .before .before .before .before .before .before .before .before .pre .1 .0 .few)) (sym (c .before .before .before .before .before .before .before .before .before .before .has .ensures) ∙ c .before .before .before .before .before .before .before .before .before .if2 .left) (c .before .before .before .before .before .before .before .before .noted .ensures .0) (c .before .before .before .before .before .before .before .before .noted .ensures .1 .0) (c .before .before .before .before .before .before .before .before .noted .ensures .1 .1) w _ _ (c .before .before .before .moved .ensures .0) (c .before .before .before .moved .ensures .1) (c .before .moved2 .ensures .0) (c .before .moved2 .ensures .1) _ _ (c .before .before .visit .ensures .1) (c .visit2 .ensures .1))
 
--- src/lib.rt:124:1
 visit-returns-4 : (t : ℕ) → visit-lts.Need-returns-4 (
   has-reads.Asked,
   has-reads.Learnt,
@@ -441,7 +421,6 @@ visit-returns-4 t c =
     let w = way-store _ (sym (c .before .before .before .before .w2 .given .1) ∙ c .before .before .before .before .before .before .onward-at .ensures) in
     (c .visit3 .ensures .0, went-store _ _ _ (c .before .before .before .before .before .before .before .before .before .before .before .if1 .left) _ _ _ (omega (arith, c .before .before .before .before .before .before .before .before .before .before .before .before .before .before .pre .1 .0 .few)) (sym (c .before .before .before .before .before .before .before .before .before .has .ensures) ∙ c .before .before .before .before .before .before .before .before .if2 .left) (c .before .before .before .before .before .before .before .noted .ensures .0) (c .before .before .before .before .before .before .before .noted .ensures .1 .0) (c .before .before .before .before .before .before .before .noted .ensures .1 .1) (c .before .before .before .before .before .before .before .before .before .before .before .before .before .before .pre .1 .1 .1 .1) w _ (c .before .moved3 .ensures .0) (c .before .moved3 .ensures .1 ∙ c .before .before .tagged .ensures .1) _ (c .visit3 .ensures .1))
 
--- src/lib.rt:124:1
 visit-returns-5 : (t : ℕ) → visit-lts.Need-returns-5 (
   has-reads.Asked,
   has-reads.Learnt,

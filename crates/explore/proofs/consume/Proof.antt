@@ -1,3 +1,4 @@
+-- `explore::consume` meets its contract. Assumes nothing.
 use native.Mathlib.Omega.{arith}
 use Rattle.explore.proofs.Biting.{ate-none, ate-in, ate-one}
 use borrow.Author.Needs.{needs}
@@ -9,27 +10,21 @@ use Rattle.explore.proofs.Entry.moved.Reads as moved-reads
 use Rattle.explore.proofs.bite_at.Reads as bite-at-reads
 use Rattle.explore.proofs.visit.Reads as visit-reads
 
--- src/lib.rt:189:9
 bite-at-requires : tie.Need-bite-at-requires
 bite-at-requires c κs = search needs
 
--- src/lib.rt:191:9
 returns : tie.Need-returns
 returns c = (c .before .before .before .before .pre .1 .0, ate-none (c .before .before .before .before .pre .0) _ _ _ (c .before .before .before .before .pre .1 .1 .0) _ (c .before .bite-at .ensures) _ (c .if1 .taken))
 
--- src/lib.rt:193:33
 moved-requires : tie.Need-moved-requires
 moved-requires c κs = search needs
 
--- src/lib.rt:193:45
 add-visit : tie.Need-add-visit
 add-visit c = search needs
 
--- src/lib.rt:193:5
 visit-requires : tie.Need-visit-requires
 visit-requires c κs = (c .before .before .before .before .before .pre .0, (c .before .before .before .before .before .pre .1 .0, (ate-in (c .before .before .before .before .before .pre .0) (c .before .before .before .before .before .args .stamp) (c .before .before .before .before .before .args .b) (c .before .before .before .before .before .args .e) (c .before .before .before .before .before .pre .1 .1 .0) (c .before .before .bite-at .result) (c .before .before .bite-at .ensures) (c .before .before .before .before .before .args .f) (c .before .if1 .left) (c .moved .result) (c .moved .ensures .0) (c .moved .ensures .1), c .before .before .before .before .before .pre .1 .1 .1)))
 
--- src/lib.rt:183:1
 returns-2 : tie.Need-returns-2
 returns-2 c = (c .visit .ensures .0, ate-one (c .before .before .before .before .before .before .pre .0) _ _ _ (c .before .before .before .before .before .before .pre .1 .1 .0) _ (c .before .before .before .bite-at .ensures) _ (c .before .before .if1 .left) _ (c .before .moved .ensures .0) (c .before .moved .ensures .1) _ (c .visit .ensures .1))
 

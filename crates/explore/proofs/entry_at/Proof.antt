@@ -1,3 +1,4 @@
+-- `explore::entry_at` meets its contract. Assumes nothing.
 use mathlib.Core.Path.{_≡_, refl, sym, ap, _∙_}
 use Prim.Native.Nat.{ℕ, _≤_, _<_, _+_, _-_}
 use native.Mathlib.Omega.{arith}
@@ -15,43 +16,33 @@ Inv-loop work at had₀ t₀ had t = (t ≤ 8) × ((length had ≡ 8) × ((k : �
 abbrev μ-loop : tie.MeasureT-loop
 μ-loop work at had₀ t₀ had t = 8 - t
 
--- src/lib.rt:443:5
 loop-holds : tie.Need-loop-holds Inv-loop μ-loop
 loop-holds c = (omega arith, (refl, λ k b. absurd (omega arith)))
 
--- src/lib.rt:444:23
 add-had : tie.Need-add-had Inv-loop μ-loop
 add-had c = omega arith
 
--- src/lib.rt:444:23
 add-had-2 : tie.Need-add-had-2 Inv-loop μ-loop
 add-had-2 c = omega arith
 
--- src/lib.rt:444:18
 shared-slice-read-had : tie.Need-shared-slice-read-had Inv-loop μ-loop
 shared-slice-read-had c = omega arith
 
--- src/lib.rt:444:9
 array-write-had : tie.Need-array-write-had Inv-loop μ-loop
 array-write-had c = omega (arith, c .before .before .loop .inv .1 .0)
 
--- src/lib.rt:445:9
 add-t : tie.Need-add-t Inv-loop μ-loop
 add-t c = omega arith
 
--- src/lib.rt:443:5
 loop-less : tie.Need-loop-less Inv-loop μ-loop
 loop-less c = omega arith
 
--- src/lib.rt:443:5
 loop-again : tie.Need-loop-again Inv-loop μ-loop
 loop-again c = (omega arith, (length-set (c .before .before .loop .had) (c .before .before .loop .t) _ ∙ c .before .before .loop .inv .1 .0, read-more (c .before .before .before .args .work .now) (c .before .before .loop .had) (c .before .before .before .args .at) (c .before .before .loop .t) (omega (arith, c .before .before .loop .inv .1 .0)) (c .before .before .loop .inv .1 .1)))
 
--- src/lib.rt:447:17
 shared-slice-read-t13 : tie.Need-shared-slice-read-t13 Inv-loop μ-loop
 shared-slice-read-t13 c = omega arith
 
--- src/lib.rt:437:1
 returns : tie.Need-returns Inv-loop μ-loop
 returns c = sym (thread-at-is _ _ (record { on = _; had = c .before .before .loop .had }) (c .before .before .loop .inv .1 .0) refl (λ k b. c .before .before .loop .inv .1 .1 k (omega arith)))
 

@@ -1,3 +1,4 @@
+-- `explore::expand` meets its contract. Assumes nothing.
 use mathlib.Core.Path.{_≡_, refl, sym, ap, _∙_}
 use mathlib.Core.Logic.{⊎-elim}
 use Rattle.explore.proofs.Classes.{skipped}
@@ -9,10 +10,10 @@ use lib.ListN.{length}
 use Rattle.paths.specs.Registers.{next}
 use Rattle.paths.specs.Equal.{same-situation}
 use Rattle.paths.specs.Numbering.{once}
-use Rattle.explore.specs.Items.{net}
+use Rattle.net.specs.Items.{net-at}
 use Rattle.explore.specs.States.{threads-of}
 use Rattle.explore.specs.Slots.{slot, slots}
-use Rattle.explore.specs.Lists.{span}
+use Rattle.paths.specs.Limits.{bytes}
 use Rattle.explore.specs.Explore.{Kept}
 use Rattle.explore.proofs.Exploration.{once-none, expand-stop, expand-on, expanded, loaded-fit, loaded-count}
 use Rattle.explore.proofs.expand.Statement.{statement}
@@ -24,66 +25,52 @@ use Rattle.explore.proofs.load.Reads as load-reads
 use Rattle.explore.proofs.try_byte.Reads as try-byte-reads
 
 abbrev Inv-loop : tie.InvT-loop
-Inv-loop file offs work₀ i count s regs n₀ b₀ work n b = (b ≤ 256) × ((length work ≡ length work₀) × (Kept (length offs) work n × (slots work 0 n ≡ once same-situation (slots work₀ 0 count) (map (λ b. next (net file offs) b (threads-of s)) (span 0 b)))))
+Inv-loop file offs work₀ i count s regs n₀ b₀ work n b = (b ≤ 256) × ((length work ≡ length work₀) × (Kept (length offs) work n × (slots work 0 n ≡ once same-situation (slots work₀ 0 count) (map (λ b. next (net-at file offs) b (threads-of s)) (bytes 0 b)))))
 
 abbrev μ-loop : tie.MeasureT-loop
 μ-loop file offs work₀ i count s regs n₀ b₀ work n b = 256 - b
 
--- src/lib.rt:576:9
 load-requires : tie.Need-load-requires Inv-loop μ-loop
 load-requires c κs = (omega (arith, c .before .before .before .before .pre .1 .0 .room, c .before .before .before .before .pre .1 .0 .most, c .before .before .before .before .pre .1 .1), c .before .before .before .before .pre .1 .0 .holds _ (c .before .before .before .before .pre .1 .1) .few)
 
--- src/lib.rt:577:21
 mul-regs : tie.Need-mul-regs Inv-loop μ-loop
 mul-regs c = omega (arith, c .before .before .before .before .before .pre .1 .0 .most, c .before .before .before .before .before .pre .1 .1)
 
--- src/lib.rt:577:21
 add-regs : tie.Need-add-regs Inv-loop μ-loop
 add-regs c = omega (arith, c .before .before .before .before .before .pre .1 .0 .most, c .before .before .before .before .before .pre .1 .1)
 
--- src/lib.rt:577:16
 slice-read-regs : tie.Need-slice-read-regs Inv-loop μ-loop
 slice-read-regs c = omega (arith, c .before .before .before .before .before .before .pre .1 .0 .room, c .before .before .before .before .before .before .pre .1 .0 .most, c .before .before .before .before .before .before .pre .1 .1)
 
--- src/lib.rt:580:5
 loop-holds : tie.Need-loop-holds Inv-loop μ-loop
 loop-holds c = (omega arith, (refl, (c .before .before .before .before .before .before .pre .1 .0, once-none _ _)))
 
--- src/lib.rt:581:30
 cast-fresh : tie.Need-cast-fresh Inv-loop μ-loop
 cast-fresh c = omega arith
 
--- src/lib.rt:581:12
 fresh-requires : tie.Need-fresh-requires Inv-loop μ-loop
 fresh-requires c κs = c .before .before .before .before .before .before .before .before .pre .0
 
--- src/lib.rt:582:60
 cast-try-byte : tie.Need-cast-try-byte Inv-loop μ-loop
 cast-try-byte c = omega arith
 
--- src/lib.rt:582:17
 try-byte-requires : tie.Need-try-byte-requires Inv-loop μ-loop
 try-byte-requires c κs =
     let h = c .before .before .before .before .before .before .before .before .before .before .before .pre .1 .0 .holds _ (c .before .before .before .before .before .before .before .before .before .before .before .pre .1 .1) in
     (c .before .before .before .before .before .before .before .before .before .before .before .pre .0, (c .before .before .before .before .loop .inv .1 .1 .0, (loaded-fit _ _ _ _ h (c .before .before .before .before .before .before .load .ensures .0) (c .before .before .before .before .before .before .load .ensures .1), loaded-count _ _ _ _ h (c .before .before .before .before .before .before .load .ensures .1))))
 
--- src/lib.rt:584:17
 same-length : tie.Need-same-length Inv-loop μ-loop
 same-length c = c .before .before .before .before .try-byte .ensures .size ∙ c .before .before .before .before .before .before .before .before .before .loop .inv .1 .0
 
--- src/lib.rt:584:17
 returns : tie.Need-returns Inv-loop μ-loop
 returns c = expand-stop _ _ _ _ _ _ _ _ _ (c .before .before .before .before .before .before .before .before .before .before .before .load .ensures .1) _ _ (c .before .before .before .before .before .before .before .before .before .loop .inv .1 .0) (c .before .before .before .before .before .before .before .before .before .loop .inv .1 .1 .1) (c .before .before .before .before .try-byte .ensures) (omega arith) (c .if2 .taken)
 
--- src/lib.rt:588:9
 add-b : tie.Need-add-b Inv-loop μ-loop
 add-b c = omega arith
 
--- src/lib.rt:580:5
 loop-less : tie.Need-loop-less Inv-loop μ-loop
 loop-less c = omega arith
 
--- src/lib.rt:580:5
 loop-again : tie.Need-loop-again Inv-loop μ-loop
 loop-again c =
     let h = c .before .before .before .before .before .before .before .before .before .before .pre .1 .0 .holds _ (c .before .before .before .before .before .before .before .before .before .before .pre .1 .1) in
@@ -95,11 +82,9 @@ loop-again c =
           (c .if1 .came),
     )
 
--- src/lib.rt:571:1
 same-length-2 : tie.Need-same-length-2 Inv-loop μ-loop
 same-length-2 c = c .before .loop .inv .1 .0
 
--- src/lib.rt:571:1
 returns-2 : tie.Need-returns-2 Inv-loop μ-loop
 returns-2 c = expanded _ _ _ _ _ _ _ _ (c .before .before .before .load .ensures .1) (c .before .loop .b) (omega arith) (c .before .loop .inv .1 .0) (c .before .loop .inv .1 .1 .0) (c .before .loop .inv .1 .1 .1)
 

@@ -1,11 +1,13 @@
+-- `explore::explore` meets its contract. Assumes nothing.
 use mathlib.Core.Path.{_≡_, refl, sym, ap, _∙_}
 use Prim.Native.Nat.{ℕ, _≤_, _<_, _+_, _*_, _-_}
 use native.Mathlib.Omega.{arith}
 use borrow.Author.Needs.{needs}
 use lib.ListN.{length}
-use Rattle.explore.specs.Items.{net}
+use Rattle.net.specs.Items.{net-at}
 use Rattle.explore.specs.Slots.{slot, slots}
-use Rattle.explore.specs.Explore.{Kept, first}
+use Rattle.paths.specs.Limits.{first}
+use Rattle.explore.specs.Explore.{Kept}
 use Rattle.explore.proofs.Exploration.{start-over, start-kept, start-slots, explore-stop, explore-on, explored-all-of}
 use Rattle.explore.proofs.explore.Statement.{statement}
 use Rattle.explore.proofs.explore.Tie as tie
@@ -16,62 +18,49 @@ use Rattle.explore.proofs.expand.Reads as expand-reads
 use Rattle.explore.proofs.store.Reads as store-reads
 
 abbrev Inv-loop : tie.InvT-loop
-Inv-loop file offs work₀ k count₀ i₀ work count i = (i ≤ count) × ((length work ≡ length work₀) × (Kept (length offs) work count × (slots work 0 count ≡ first (net file offs) i)))
+Inv-loop file offs work₀ k count₀ i₀ work count i = (i ≤ count) × ((length work ≡ length work₀) × (Kept (length offs) work count × (slots work 0 count ≡ first (net-at file offs) i)))
 
 abbrev μ-loop : tie.MeasureT-loop
 μ-loop file offs work₀ k count₀ i₀ work count i = 96 - i
 
--- src/lib.rt:579:9
 begin-of-requires : tie.Need-begin-of-requires Inv-loop μ-loop
 begin-of-requires c κs = (c .before .before .before .pre .0 .0, c .before .before .before .pre .0 .1)
 
--- src/lib.rt:581:9
 returns : tie.Need-returns Inv-loop μ-loop
 returns c = start-over _ _ _ _ (c .before .begin-of .ensures) (c .if1 .taken)
 
--- src/lib.rt:586:23
 cast-store : tie.Need-cast-store Inv-loop μ-loop
 cast-store c = omega (arith, c .before .before .before .before .begin-of .ensures .is .few (c .before .before .before .if1 .left))
 
--- src/lib.rt:586:5
 store-requires : tie.Need-store-requires Inv-loop μ-loop
 store-requires c κs = (c .before .before .before .before .begin-of .ensures .is .fit .few, omega (arith, c .before .before .before .before .before .before .before .before .pre .1))
 
--- src/lib.rt:589:5
 loop-holds : tie.Need-loop-holds Inv-loop μ-loop
 loop-holds c = (omega arith, (refl, (start-kept _ _ _ _ (c .before .before .before .before .before .before .before .begin-of .ensures) (c .before .before .before .before .before .before .if1 .left) (c .before .before .before .before .before .before .before .before .before .before .before .pre .1) _ (c .before .before .store .ensures), start-slots _ _ _ _ (c .before .before .before .before .before .before .before .begin-of .ensures) (c .before .before .before .before .before .before .if1 .left) (c .before .before .before .before .before .before .before .before .before .before .before .pre .1) _ (c .before .before .store .ensures))))
 
--- src/lib.rt:590:13
 expand-requires : tie.Need-expand-requires Inv-loop μ-loop
 expand-requires c κs = (c .before .before .before .before .before .before .before .before .before .before .before .before .before .before .pre .0 .0, (c .before .before .loop .inv .1 .1 .0, omega arith))
 
--- src/lib.rt:592:13
 same-length : tie.Need-same-length Inv-loop μ-loop
 same-length c = c .before .before .before .before .expand .ensures .size ∙ c .before .before .before .before .before .before .before .loop .inv .1 .0 ∙ c .before .before .before .before .before .before .before .before .before .before .store .ensures .size
 
--- src/lib.rt:592:13
 returns-2 : tie.Need-returns-2 Inv-loop μ-loop
 returns-2 c = explore-stop _ _ _ _ _ _ _ _ (c .before .before .before .before .before .before .before .loop .inv .1 .0 ∙ c .before .before .before .before .before .before .before .before .before .before .store .ensures .size) (c .before .before .before .before .before .before .before .loop .inv .1 .1 .1) (omega arith) (c .before .before .before .before .expand .ensures) (c .if2 .taken)
 
--- src/lib.rt:595:9
 add-i : tie.Need-add-i Inv-loop μ-loop
 add-i c = omega (arith, c .before .before .before .before .before .before .before .loop .inv .1 .1 .0 .most)
 
--- src/lib.rt:589:5
 loop-less : tie.Need-loop-less Inv-loop μ-loop
 loop-less c = omega (arith, c .before .before .before .before .before .before .before .loop .inv .1 .1 .0 .most)
 
--- src/lib.rt:589:5
 loop-again : tie.Need-loop-again Inv-loop μ-loop
 loop-again c =
     let q = explore-on _ _ (c .before .before .before .before .before .before .before .before .before .before .before .before .before .before .before .before .before .before .before .args .work .now) _ _ _ _ _ (c .before .before .before .before .before .before .before .loop .inv .1 .0 ∙ c .before .before .before .before .before .before .before .before .before .before .store .ensures .size) (c .before .before .before .before .before .before .before .loop .inv .1 .1 .1) (omega arith) (c .before .before .before .before .expand .ensures) (c .if2 .left) in
     (omega (arith, q .1 .1), (c .before .before .before .before .expand .ensures .size ∙ c .before .before .before .before .before .before .before .loop .inv .1 .0, (q .0, q .1 .0)))
 
--- src/lib.rt:574:1
 same-length-2 : tie.Need-same-length-2 Inv-loop μ-loop
 same-length-2 c = c .before .loop .inv .1 .0 ∙ c .before .before .before .before .store .ensures .size
 
--- src/lib.rt:574:1
 returns-3 : tie.Need-returns-3 Inv-loop μ-loop
 returns-3 c = explored-all-of _ _ _ _ _ (c .before .loop .i) (omega arith) (c .before .loop .inv .1 .0 ∙ c .before .before .before .before .store .ensures .size) (c .before .loop .inv .1 .1 .0) (c .before .loop .inv .1 .1 .1)
 

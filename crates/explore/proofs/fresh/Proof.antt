@@ -1,3 +1,4 @@
+-- `explore::fresh` meets its contract. Assumes nothing.
 use mathlib.Core.Path.{_≡_, refl, sym, ap, _∙_}
 use Prim.Native.Nat.{ℕ, _≤_, _<_, _+_, _-_}
 use native.Mathlib.Omega.{arith}
@@ -5,7 +6,8 @@ use borrow.Author.Needs.{needs}
 use lib.ListN.{length}
 use Rattle.net.specs.Rec.{rec}
 use Rattle.paths.specs.Situation.{bite}
-use Rattle.explore.specs.Items.{net, lands}
+use Rattle.net.specs.Items.{net-at}
+use Rattle.explore.specs.Items.{lands}
 use Rattle.explore.proofs.Classes.{alike-more}
 use Rattle.explore.proofs.fresh.Statement.{statement}
 use Rattle.explore.proofs.fresh.Tie as tie
@@ -14,56 +16,44 @@ use Rattle.explore.proofs.fresh.Lts as lts
 use Rattle.explore.proofs.bite_at.Reads as bite-at-reads
 
 abbrev Inv-loop : tie.InvT-loop
-Inv-loop file offs b r₀ r = (r ≤ length offs) × ((k : ℕ) → k < r → lands (bite b (rec (net file offs) k)) ≡ lands (bite (b - 1) (rec (net file offs) k)))
+Inv-loop file offs b r₀ r = (r ≤ length offs) × ((k : ℕ) → k < r → lands (bite b (rec (net-at file offs) k)) ≡ lands (bite (b - 1) (rec (net-at file offs) k)))
 
 abbrev μ-loop : tie.MeasureT-loop
 μ-loop file offs b r₀ r = length offs - r
 
--- src/lib.rt:558:9
 returns : tie.Need-returns Inv-loop μ-loop
 returns c = λ e. absurd (let z : _≡_ {A = ℕ} 0 1 = cc in omega arith)
 
--- src/lib.rt:561:5
 loop-holds : tie.Need-loop-holds Inv-loop μ-loop
 loop-holds c = (omega arith, λ k d. absurd (omega arith))
 
--- src/lib.rt:562:32
 cast-bite-at : tie.Need-cast-bite-at Inv-loop μ-loop
 cast-bite-at c = omega (arith, c .before .before .before .before .before .pre .few)
 
--- src/lib.rt:562:12
 bite-at-requires : tie.Need-bite-at-requires Inv-loop μ-loop
 bite-at-requires c κs = (c .before .before .before .before .before .pre, omega arith)
 
--- src/lib.rt:562:67
 cast-bite-at-2 : tie.Need-cast-bite-at-2 Inv-loop μ-loop
 cast-bite-at-2 c = omega (arith, c .before .before .before .before .before .before .pre .few)
 
--- src/lib.rt:562:76
 sub-bite-at : tie.Need-sub-bite-at Inv-loop μ-loop
 sub-bite-at c = omega arith
 
--- src/lib.rt:562:47
 bite-at-requires-2 : tie.Need-bite-at-requires-2 Inv-loop μ-loop
 bite-at-requires-2 c κs = (c .before .before .before .before .before .before .pre, omega arith)
 
--- src/lib.rt:563:13
 returns-2 : tie.Need-returns-2 Inv-loop μ-loop
 returns-2 c = λ e. absurd (let z : _≡_ {A = ℕ} 0 1 = cc in omega arith)
 
--- src/lib.rt:565:9
 add-r : tie.Need-add-r Inv-loop μ-loop
 add-r c = omega (arith, c .before .before .before .before .before .before .before .before .pre .few)
 
--- src/lib.rt:561:5
 loop-less : tie.Need-loop-less Inv-loop μ-loop
 loop-less c = omega arith
 
--- src/lib.rt:561:5
 loop-again : tie.Need-loop-again Inv-loop μ-loop
-loop-again c = (omega arith, alike-more (net (c .before .before .before .before .before .before .before .before .args .file .now) (c .before .before .before .before .before .before .before .before .args .offs .now)) (c .before .before .before .before .before .before .before .before .args .b) (c .before .before .before .before .before .before .before .before .args .b - 1) (c .before .before .before .before .loop .r) (c .before .before .before .before .loop .inv .1) (sym (c .before .before .bite-at .ensures) ∙ c .if2 .left ∙ c .before .bite-at2 .ensures))
+loop-again c = (omega arith, alike-more (net-at (c .before .before .before .before .before .before .before .before .args .file .now) (c .before .before .before .before .before .before .before .before .args .offs .now)) (c .before .before .before .before .before .before .before .before .args .b) (c .before .before .before .before .before .before .before .before .args .b - 1) (c .before .before .before .before .loop .r) (c .before .before .before .before .loop .inv .1) (sym (c .before .before .bite-at .ensures) ∙ c .if2 .left ∙ c .before .bite-at2 .ensures))
 
--- src/lib.rt:553:1
 returns-3 : tie.Need-returns-3 Inv-loop μ-loop
 returns-3 c = λ _. record { positive = omega (arith, c .before .before .if1 .left); same = λ r d. c .before .loop .inv .1 r (omega arith) }
 

@@ -1,3 +1,4 @@
+-- `explore::gather` meets its contract. Assumes nothing.
 use mathlib.Core.Path.{_≡_, refl, sym, ap, _∙_}
 use mathlib.Core.Logic.{_⊎_, inl, inr, ⊎-elim}
 use mathlib.Core.List.{List, [], _∷_, _++_, map, foldl}
@@ -21,43 +22,34 @@ Inv-loop e k₀ t₀ k t = (t ≤ 8) × ((k .n ≤ 64) × (keys-of k ≡ foldl n
 abbrev μ-loop : tie.MeasureT-loop
 μ-loop e k₀ t₀ k t = 8 - t
 
--- src/lib.rt:293:5
 loop-holds : tie.Need-loop-holds Inv-loop μ-loop
 loop-holds c = (omega arith, (c .pre, refl))
 
--- src/lib.rt:294:17
 element-copy-out-o : tie.Need-element-copy-out-o Inv-loop μ-loop
 element-copy-out-o c = omega arith
 
--- src/lib.rt:296:27
 cast-add : tie.Need-cast-add Inv-loop μ-loop
 cast-add c = omega arith
 
--- src/lib.rt:296:17
 add-requires : tie.Need-add-requires Inv-loop μ-loop
 add-requires c κs = c .before .before .before .loop .inv .1 .0
 
--- src/lib.rt:298:17
 returns : tie.Need-returns Inv-loop μ-loop
 returns c =
     let len : length (c .before .before .before .before .before .before .args .t2 .had) ≡ 8 = search needs in
     gather-over (c .before .before .before .before .before .before .args .t2 .had) (c .before .before .before .before .before .loop .t) (omega arith) _ _ (c .before .before .before .before .before .loop .inv .1 .1) (c .before .before .if1 .taken) _ (c .before .add .ensures) (c .if2 .taken)
 
--- src/lib.rt:303:9
 add-t : tie.Need-add-t Inv-loop μ-loop
 add-t c = omega arith
 
--- src/lib.rt:293:5
 loop-less : tie.Need-loop-less Inv-loop μ-loop
 loop-less c = omega arith
 
--- src/lib.rt:293:5
 loop-again : tie.Need-loop-again Inv-loop μ-loop
 loop-again c =
     let len : length (c .before .before .before .before .args .t2 .had) ≡ 8 = search needs in
     (omega arith, ⊎-elim (λ w. rw (w .4) (gather-on (c .before .before .before .before .args .t2 .had) (c .before .before .before .loop .t) (omega arith) _ _ (c .before .before .before .loop .inv .1 .1) (w .0 .taken) _ (w .1 .ensures) (w .2 .left))) (λ w. rw (w .1) (c .before .before .before .loop .inv .1 .0, gather-skip (c .before .before .before .before .args .t2 .had) (c .before .before .before .loop .t) (omega arith) _ _ (c .before .before .before .loop .inv .1 .1) (w .0 .left))) (c .if1 .came))
 
--- src/lib.rt:287:1
 returns-2 : tie.Need-returns-2 Inv-loop μ-loop
 returns-2 c =
     let len : length (c .before .before .args .t2 .had) ≡ 8 = search needs in

@@ -1,3 +1,4 @@
+-- `explore::load` meets its contract. Assumes nothing.
 use mathlib.Core.Path.{_≡_, refl, sym, ap, _∙_}
 use mathlib.Core.List.{List, [], _∷_, _++_}
 use Prim.Native.Nat.{ℕ, _≤_, _<_, _+_, _*_, _-_}
@@ -22,59 +23,45 @@ Inv-loop work j base n f₀ i₀ f i = (i ≤ n) × ((f .n ≡ i) × (threads-of
 abbrev μ-loop : tie.MeasureT-loop
 μ-loop work j base n f₀ i₀ f i = n - i
 
--- src/lib.rt:454:16
 mul-base : tie.Need-mul-base Inv-loop μ-loop
 mul-base c = omega (arith, c .before .pre .0)
 
--- src/lib.rt:455:13
 shared-slice-read-n : tie.Need-shared-slice-read-n Inv-loop μ-loop
 shared-slice-read-n c = omega (arith, c .before .before .pre .0)
 
--- src/lib.rt:455:13
 cast-n : tie.Need-cast-n Inv-loop μ-loop
 cast-n c = omega (arith, c .before .before .pre .1)
 
--- src/lib.rt:456:9
 new-requires : tie.Need-new-requires Inv-loop μ-loop
 new-requires c κs = search needs
 
--- src/lib.rt:458:5
 loop-holds : tie.Need-loop-holds Inv-loop μ-loop
 loop-holds c = (omega arith, (c .new .ensures .0, none-yet _ (c .new .ensures .0) ∙ sym (no-threads _ _)))
 
--- src/lib.rt:459:34
 add-entry-at : tie.Need-add-entry-at Inv-loop μ-loop
 add-entry-at c = omega (arith, c .before .before .before .before .before .pre .0)
 
--- src/lib.rt:459:45
 mul-entry-at : tie.Need-mul-entry-at Inv-loop μ-loop
 mul-entry-at c = omega (arith, c .before .before .before .before .before .pre .1)
 
--- src/lib.rt:459:34
 add-entry-at-2 : tie.Need-add-entry-at-2 Inv-loop μ-loop
 add-entry-at-2 c = omega (arith, c .before .before .before .before .before .pre .0, c .before .before .before .before .before .pre .1)
 
--- src/lib.rt:459:19
 entry-at-requires : tie.Need-entry-at-requires Inv-loop μ-loop
 entry-at-requires c κs = omega (arith, c .before .before .before .before .before .pre .0, c .before .before .before .before .before .pre .1)
 
--- src/lib.rt:459:9
 put-requires : tie.Need-put-requires Inv-loop μ-loop
 put-requires c κs = omega (arith, c .before .before .before .before .before .before .pre .1, c .before .before .loop .inv .1 .0)
 
--- src/lib.rt:460:9
 add-i : tie.Need-add-i Inv-loop μ-loop
 add-i c = omega (arith, c .before .before .before .before .before .before .before .pre .1)
 
--- src/lib.rt:458:5
 loop-less : tie.Need-loop-less Inv-loop μ-loop
 loop-less c = omega arith
 
--- src/lib.rt:458:5
 loop-again : tie.Need-loop-again Inv-loop μ-loop
 loop-again c = (omega arith, (omega (arith, c .put .ensures .count, c .before .before .before .loop .inv .1 .0), c .put .ensures .list ∙ ap (λ v. v ++ (thread-of (c .before .entry-at .result) ∷ [])) (c .before .before .before .loop .inv .1 .1) ∙ ap (λ v. threads-at (c .before .before .before .before .before .before .before .args .work .now) (578 * c .before .before .before .before .before .before .before .args .j + 2) (c .before .before .before .loop .i) ++ (v ∷ [])) (c .before .entry-at .ensures) ∙ sym (threads-snoc (c .before .before .before .before .before .before .before .args .work .now) (578 * c .before .before .before .before .before .before .before .args .j + 2) (c .before .before .before .loop .i))))
 
--- src/lib.rt:450:1
 returns : tie.Need-returns Inv-loop μ-loop
 returns c = (omega (arith, c .before .before .before .before .before .pre .1, c .before .loop .inv .1 .0), c .before .loop .inv .1 .1 ∙ slot-whole (c .before .before .before .before .before .args .work .now) (c .before .before .before .before .before .args .j) (c .before .loop .i) (omega arith))
 

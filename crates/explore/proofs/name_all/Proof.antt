@@ -1,3 +1,4 @@
+-- `explore::name_all` meets its contract. Assumes nothing.
 use mathlib.Core.Path.{_≡_, refl, sym, ap, _∙_}
 use mathlib.Core.List.{List, [], _∷_, _++_, map, foldl}
 use Prim.Native.Nat.{ℕ, _≤_, _+_, _-_}
@@ -24,45 +25,35 @@ Inv-loop regs s n f₀ i₀ f i = (i ≤ n) × ((f .n ≡ i) × (threads-of f �
 abbrev μ-loop : tie.MeasureT-loop
 μ-loop regs s n f₀ i₀ f i = n - i
 
--- src/lib.rt:352:9
 new-requires : tie.Need-new-requires Inv-loop μ-loop
 new-requires c κs = search needs
 
--- src/lib.rt:354:5
 loop-holds : tie.Need-loop-holds Inv-loop μ-loop
 loop-holds c = (omega arith, (c .new .ensures .0, none-yet _ (c .new .ensures .0)))
 
--- src/lib.rt:355:17
 mul-e : tie.Need-mul-e Inv-loop μ-loop
 mul-e c = omega (arith, c .before .before .before .pre .1)
 
--- src/lib.rt:355:17
 element-copy-out-e : tie.Need-element-copy-out-e Inv-loop μ-loop
 element-copy-out-e c = omega (arith, c .before .before .before .pre .1)
 
--- src/lib.rt:356:19
 name-entry-requires : tie.Need-name-entry-requires Inv-loop μ-loop
 name-entry-requires c κs = c .before .before .before .before .pre .0
 
--- src/lib.rt:356:9
 put-requires : tie.Need-put-requires Inv-loop μ-loop
 put-requires c κs = omega (arith, c .before .before .before .before .before .pre .1, c .before .before .before .loop .inv .1 .0)
 
--- src/lib.rt:357:9
 add-i : tie.Need-add-i Inv-loop μ-loop
 add-i c = omega (arith, c .before .before .before .before .before .before .pre .1)
 
--- src/lib.rt:354:5
 loop-less : tie.Need-loop-less Inv-loop μ-loop
 loop-less c = omega arith
 
--- src/lib.rt:354:5
 loop-again : tie.Need-loop-again Inv-loop μ-loop
 loop-again c =
     let len = unmapped _ (c .before .before .before .before .before .before .args .t2 .list) 64 (c .before .before .before .before .before .before .good .1 .0 .1 .1 .1 .1 .0 .1 .0 .1) in
     (omega arith, (omega (arith, c .put .ensures .count, c .before .before .before .before .loop .inv .1 .0), c .put .ensures .list ∙ ap (λ v. v ++ (thread-of (c .before .name-entry .result) ∷ [])) (c .before .before .before .before .loop .inv .1 .1) ∙ sym (rename-more _ (c .before .before .before .before .before .before .args .t2 .list) (c .before .before .before .before .loop .i) _ (omega (arith, c .before .before .before .before .before .before .pre .1)) _ (c .before .name-entry .ensures))))
 
--- src/lib.rt:347:1
 returns : tie.Need-returns Inv-loop μ-loop
 returns c =
     let e : c .before .loop .i ≡ c .before .before .before .args .t2 .n = omega arith in

@@ -1,3 +1,4 @@
+-- `explore::name_entry` meets its contract. Assumes nothing.
 use mathlib.Core.Path.{_≡_, refl, sym, ap, _∙_}
 use mathlib.Core.Logic.{_⊎_, inl, inr, ⊎-elim}
 use mathlib.Core.List.{List, [], _∷_, _++_, map, foldl}
@@ -22,50 +23,40 @@ Inv-loop regs e d₀ t₀ d t = (t ≤ 8) × ((d .on ≡ e .on) × ((length (d .
 abbrev μ-loop : tie.MeasureT-loop
 μ-loop regs e d₀ t₀ d t = 8 - t
 
--- src/lib.rt:336:5
 loop-holds : tie.Need-loop-holds Inv-loop μ-loop
 loop-holds c =
     let len : length (c .args .t2 .had) ≡ 8 = search needs in
     (omega arith, (refl, (len, refl)))
 
--- src/lib.rt:337:17
 element-copy-out-o : tie.Need-element-copy-out-o Inv-loop μ-loop
 element-copy-out-o c = omega arith
 
--- src/lib.rt:339:31
 cast-find : tie.Need-cast-find Inv-loop μ-loop
 cast-find c = omega arith
 
--- src/lib.rt:339:17
 find-requires : tie.Need-find-requires Inv-loop μ-loop
 find-requires c κs = c .before .before .before .before .pre
 
--- src/lib.rt:340:24
 cast-d : tie.Need-cast-d Inv-loop μ-loop
 cast-d c =
     let len = unmapped _ (c .before .before .before .before .before .args .regs .list) 64 (c .before .before .before .before .before .good .0 .1 .1 .1 .0 .1 .0 .1) in
     omega (arith, index-small (c .before .before .before .before .before .args .regs) (omega (arith, c .before .before .before .before .before .pre)) (c .before .before .before .before .before .pre) _ (c .before .before .before .before .loop .t) (getD (c .before .before .before .before .before .args .t2 .had) (c .before .before .before .before .loop .t) 0) (c .find .ensures))
 
--- src/lib.rt:340:13
 element-write-d : tie.Need-element-write-d Inv-loop μ-loop
 element-write-d c = omega (arith, c .before .before .before .before .loop .inv .1 .1 .0)
 
--- src/lib.rt:342:9
 add-t : tie.Need-add-t Inv-loop μ-loop
 add-t c = omega arith
 
--- src/lib.rt:336:5
 loop-less : tie.Need-loop-less Inv-loop μ-loop
 loop-less c = omega arith
 
--- src/lib.rt:336:5
 loop-again : tie.Need-loop-again Inv-loop μ-loop
 loop-again c =
     let len : length (c .before .before .before .before .args .t2 .had) ≡ 8 = search needs in
     let len2 = unmapped _ (c .before .before .before .before .args .regs .list) 64 (c .before .before .before .before .good .0 .1 .1 .1 .0 .1 .0 .1) in
     (omega arith, ⊎-elim (λ w. rw (w .2) (c .before .before .before .loop .inv .1 .0, (length-set (c .before .before .before .loop .d .had) (c .before .before .before .loop .t) (w .1 .result) ∙ c .before .before .before .loop .inv .1 .1 .0, name-one _ (c .before .before .before .before .args .t2 .had) (c .before .before .before .loop .t) (omega arith) (c .before .before .before .loop .d .had) (c .before .before .before .loop .inv .1 .1 .1) (w .0 .taken) _ (omega (arith, index-small (c .before .before .before .before .args .regs) (omega (arith, c .before .before .before .before .pre)) (c .before .before .before .before .pre) _ (c .before .before .before .loop .t) (getD (c .before .before .before .before .args .t2 .had) (c .before .before .before .loop .t) 0) (w .1 .ensures))) (w .1 .ensures)))) (λ w. rw (w .1) (c .before .before .before .loop .inv .1 .0, (c .before .before .before .loop .inv .1 .1 .0, name-skip _ (c .before .before .before .before .args .t2 .had) (c .before .before .before .loop .t) (omega arith) (c .before .before .before .loop .d .had) (c .before .before .before .loop .inv .1 .1 .1) (w .0 .left)))) (c .if1 .came))
 
--- src/lib.rt:330:1
 returns : tie.Need-returns Inv-loop μ-loop
 returns c =
     let len : length (c .before .before .args .t2 .had) ≡ 8 = search needs in

@@ -1,3 +1,4 @@
+-- `explore::number_of` meets its contract. Assumes nothing.
 use mathlib.Core.Path.{_≡_, refl, sym, ap, _∙_}
 use Rattle.explore.proofs.Bits.{unmapped}
 use Rattle.explore.proofs.Naming.{number-over, number-fine, fit-renamed}
@@ -9,19 +10,15 @@ use Rattle.explore.proofs.number_of.Lts as lts
 use Rattle.explore.proofs.name_all.Reads as name-all-reads
 use Rattle.explore.proofs.registers_of.Reads as registers-of-reads
 
--- src/lib.rt:373:9
 registers-of-requires : tie.Need-registers-of-requires
 registers-of-requires c κs = search needs
 
--- src/lib.rt:376:9
 returns : tie.Need-returns
 returns c = (number-over _ _ (c .before .before .registers-of .ensures) (c .if1 .taken) _, λ N h. h)
 
--- src/lib.rt:378:43
 name-all-requires : tie.Need-name-all-requires
 name-all-requires c κs = (c .before .before .registers-of .ensures .fine (c .if1 .left) .1, c .before .before .before .pre)
 
--- src/lib.rt:369:1
 returns-2 : tie.Need-returns-2
 returns-2 c =
     let len = unmapped _ (c .before .before .before .registers-of .result .regs .list) 64 (c .before .before .before .registers-of .ok .1 .1 .1 .0 .1 .1 .1 .0 .1 .0 .1) in

@@ -1,70 +1,55 @@
+-- `explore::onward_at` meets its contract. Assumes nothing.
 use mathlib.Core.Path.{_≡_, refl, sym, ap, _∙_}
 use native.Mathlib.Omega.{arith}
 use Rattle.explore.specs.Onward.{onward-of}
-use Rattle.explore.proofs.Reading.{at-fork, at-tag, at-stay, rec-net, kind-in, fork-in, tag-in}
+use Rattle.net.proofs.Reading.{at-fork, at-tag}
+use Rattle.explore.proofs.Reading.{at-stay, kind-in, fork-in, tag-in}
+use Rattle.net.proofs.Inside.{rec-net}
 use borrow.Author.Needs.{needs}
 use Rattle.explore.proofs.onward_at.Statement.{statement}
 use Rattle.explore.proofs.onward_at.Tie as tie
 use Rattle.explore.proofs.onward_at.Reads as reads
 use Rattle.explore.proofs.onward_at.Lts as lts
 
--- src/lib.rt:112:14
 mul-at : tie.Need-mul-at
 mul-at c = search needs
 
--- src/lib.rt:112:14
 shared-slice-read-at : tie.Need-shared-slice-read-at
 shared-slice-read-at c = search needs
 
--- src/lib.rt:112:14
-cast-at : tie.Need-cast-at
-cast-at c = omega (arith, c .shared-slice-known .given (c .before .args .r))
-
--- src/lib.rt:113:16
 shared-slice-read-kind : tie.Need-shared-slice-read-kind
 shared-slice-read-kind c = omega (arith, kind-in (c .before .before .pre .0) (c .before .before .args .r) (c .before .before .pre .1))
 
--- src/lib.rt:115:31
 add-t13 : tie.Need-add-t13
 add-t13 c = omega (arith, kind-in (c .before .before .before .pre .0) (c .before .before .before .args .r) (c .before .before .before .pre .1))
 
--- src/lib.rt:115:26
 shared-slice-read-t15 : tie.Need-shared-slice-read-t15
 shared-slice-read-t15 c = omega (arith, kind-in (c .before .before .before .before .pre .0) (c .before .before .before .before .args .r) (c .before .before .before .before .pre .1))
 
--- src/lib.rt:115:45
 add-t16 : tie.Need-add-t16
 add-t16 c = omega (arith, fork-in (c .before .before .before .before .pre .0) (c .before .before .before .before .args .r) (c .before .before .before .before .pre .1) (c .before .if1 .taken))
 
--- src/lib.rt:115:40
 shared-slice-read-t18 : tie.Need-shared-slice-read-t18
 shared-slice-read-t18 c = omega (arith, fork-in (c .before .before .before .before .before .pre .0) (c .before .before .before .before .before .args .r) (c .before .before .before .before .before .pre .1) (c .before .before .if1 .taken))
 
--- src/lib.rt:115:9
 returns : tie.Need-returns
 returns c = sym (ap onward-of (rec-net _ _ _ (c .before .before .before .before .before .pre .1) ∙ at-fork _ _ (c .before .before .if1 .taken)))
 
--- src/lib.rt:118:32
 add-t19 : tie.Need-add-t19
 add-t19 c = omega (arith, kind-in (c .before .before .before .before .pre .0) (c .before .before .before .before .args .r) (c .before .before .before .before .pre .1))
 
--- src/lib.rt:118:27
 shared-slice-read-t21 : tie.Need-shared-slice-read-t21
 shared-slice-read-t21 c = omega (arith, kind-in (c .before .before .before .before .before .pre .0) (c .before .before .before .before .before .args .r) (c .before .before .before .before .before .pre .1))
 
--- src/lib.rt:118:46
 add-t22 : tie.Need-add-t22
 add-t22 c = omega (arith, tag-in (c .before .before .before .before .before .pre .0) (c .before .before .before .before .before .args .r) (c .before .before .before .before .before .pre .1) (c .before .if2 .taken))
 
--- src/lib.rt:118:41
 shared-slice-read-t24 : tie.Need-shared-slice-read-t24
 shared-slice-read-t24 c = omega (arith, tag-in (c .before .before .before .before .before .before .pre .0) (c .before .before .before .before .before .before .args .r) (c .before .before .before .before .before .before .pre .1) (c .before .before .if2 .taken))
 
--- src/lib.rt:118:9
 returns-2 : tie.Need-returns-2
 returns-2 c = sym (ap onward-of (rec-net _ _ _ (c .before .before .before .before .before .before .pre .1) ∙ at-tag _ _ (c .before .before .if2 .taken)))
 
--- src/lib.rt:107:1
 returns-3 : tie.Need-returns-3
 returns-3 c = sym (ap onward-of (rec-net _ _ _ (c .before .before .before .before .pre .1)) ∙ at-stay _ _ (c .before .if1 .left) (c .if2 .left))
 
@@ -74,7 +59,6 @@ onward-at-spec =
     (tie.spec
     mul-at
     shared-slice-read-at
-    cast-at
     shared-slice-read-kind
     add-t13
     shared-slice-read-t15

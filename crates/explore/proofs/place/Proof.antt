@@ -1,3 +1,4 @@
+-- `explore::place` meets its contract. Assumes nothing.
 use mathlib.Core.Path.{_≡_, refl, sym, ap, _∙_}
 use mathlib.Core.Bool.{true, false}
 use Prim.Native.Nat.{ℕ, _≤_, _<_, _+_, _*_, _-_}
@@ -19,31 +20,24 @@ Inv-loop work count s j₀ j = (j ≤ count) × ((k : ℕ) → k < j → same-si
 abbrev μ-loop : tie.MeasureT-loop
 μ-loop work count s j₀ j = count - j
 
--- src/lib.rt:509:5
 loop-holds : tie.Need-loop-holds Inv-loop μ-loop
 loop-holds c = (omega arith, λ k b. absurd (omega arith))
 
--- src/lib.rt:510:12
 same-requires : tie.Need-same-requires Inv-loop μ-loop
 same-requires c κs = (omega (arith, c .before .before .before .pre .0), c .before .before .before .pre .1)
 
--- src/lib.rt:511:13
 returns : tie.Need-returns Inv-loop μ-loop
 returns c = placed-at _ _ _ (c .before .before .before .loop .j) (omega arith) (c .before .before .before .loop .inv .1) (sym (c .before .same .ensures) ∙ c .if1 .taken)
 
--- src/lib.rt:513:9
 add-j : tie.Need-add-j Inv-loop μ-loop
 add-j c = omega arith
 
--- src/lib.rt:509:5
 loop-less : tie.Need-loop-less Inv-loop μ-loop
 loop-less c = omega arith
 
--- src/lib.rt:509:5
 loop-again : tie.Need-loop-again Inv-loop μ-loop
 loop-again c = (omega arith, none-more (c .before .before .before .before .before .args .work .now) (threads-of (c .before .before .before .before .before .args .s)) (c .before .before .before .loop .j) (c .before .before .before .loop .inv .1) (sym (c .before .same .ensures) ∙ c .if1 .left))
 
--- src/lib.rt:504:1
 returns-2 : tie.Need-returns-2 Inv-loop μ-loop
 returns-2 c = placed-none _ _ _ (c .before .loop .j) (omega arith) (c .before .loop .inv .1)
 

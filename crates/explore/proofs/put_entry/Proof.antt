@@ -1,3 +1,4 @@
+-- `explore::put_entry` meets its contract. Assumes nothing.
 use mathlib.Core.Path.{_≡_, refl, sym, ap, _∙_}
 use mathlib.Core.Logic.{_⊎_, inl, inr}
 use Prim.Native.Nat.{ℕ, _≤_, _<_, _+_, _-_}
@@ -16,49 +17,38 @@ Inv-loop work₀ at e t₀ work t = (t ≤ 8) × ((length work ≡ length work�
 abbrev μ-loop : tie.MeasureT-loop
 μ-loop work₀ at e t₀ work t = 8 - t
 
--- src/lib.rt:413:5
 slice-write-work : tie.Need-slice-write-work Inv-loop μ-loop
 slice-write-work c = omega arith
 
--- src/lib.rt:415:5
 loop-holds : tie.Need-loop-holds Inv-loop μ-loop
 loop-holds c = (omega arith, (refl, (λ k b. absurd (omega arith), λ k b. refl)))
 
--- src/lib.rt:416:28
 element-copy-out-work : tie.Need-element-copy-out-work Inv-loop μ-loop
 element-copy-out-work c = omega arith
 
--- src/lib.rt:416:14
 add-work : tie.Need-add-work Inv-loop μ-loop
 add-work c = omega arith
 
--- src/lib.rt:416:14
 add-work-2 : tie.Need-add-work-2 Inv-loop μ-loop
 add-work-2 c = omega arith
 
--- src/lib.rt:416:9
 slice-write-work-2 : tie.Need-slice-write-work-2 Inv-loop μ-loop
 slice-write-work-2 c = let q = length-set (c .before .before .before .args .work .now) (c .before .before .before .args .at) (c .before .before .before .args .t3 .on) in omega (arith, c .before .before .loop .inv .1 .0)
 
--- src/lib.rt:417:9
 add-t : tie.Need-add-t Inv-loop μ-loop
 add-t c = omega arith
 
--- src/lib.rt:415:5
 loop-less : tie.Need-loop-less Inv-loop μ-loop
 loop-less c = omega arith
 
--- src/lib.rt:415:5
 loop-again : tie.Need-loop-again Inv-loop μ-loop
 loop-again c =
     let q = length-set (c .before .before .before .args .work .now) (c .before .before .before .args .at) (c .before .before .before .args .t3 .on) in
     (omega arith, (length-set (c .before .before .loop .work) (c .before .before .before .args .at + 1 + c .before .before .loop .t) (getD (c .before .before .before .args .t3 .had) (c .before .before .loop .t) 0) ∙ c .before .before .loop .inv .1 .0, (wrote-more (c .before .before .loop .work) (c .before .before .loop .work) (c .before .before .before .args .at) (c .before .before .loop .t) (c .before .before .before .args .t3 .had) (omega (arith, c .before .before .loop .inv .1 .0)) (c .before .before .loop .inv .1 .1 .0), else-more (c .before .before .loop .work) (set (c .before .before .before .args .work .now) (c .before .before .before .args .at) (c .before .before .before .args .t3 .on)) (c .before .before .before .args .at) (c .before .before .loop .t) (getD (c .before .before .before .args .t3 .had) (c .before .before .loop .t) 0) (c .before .before .loop .inv .1 .1 .1))))
 
--- src/lib.rt:409:1
 same-length : tie.Need-same-length Inv-loop μ-loop
 same-length c = c .before .loop .inv .1 .0 ∙ length-set (c .before .before .args .work .now) (c .before .before .args .at) (c .before .before .args .t3 .on)
 
--- src/lib.rt:409:1
 returns : tie.Need-returns Inv-loop μ-loop
 returns c =
     let len : length (c .before .before .args .t3 .had) ≡ 8 = search needs in

@@ -1,3 +1,4 @@
+-- `explore::registers_of` meets its contract. Assumes nothing.
 use mathlib.Core.Path.{_≡_, refl, sym, ap, _∙_}
 use mathlib.Core.List.{List, [], _∷_, _++_, map, foldl}
 use Prim.Native.Nat.{ℕ, _≤_, _+_, _-_}
@@ -22,47 +23,37 @@ Inv-loop s n k₀ i₀ k i = (i ≤ n) × ((k .n ≤ 64) × (keys-of k ≡ foldl
 abbrev μ-loop : tie.MeasureT-loop
 μ-loop s n k₀ i₀ k i = n - i
 
--- src/lib.rt:314:9
 new-requires : tie.Need-new-requires Inv-loop μ-loop
 new-requires c κs = search needs
 
--- src/lib.rt:316:5
 loop-holds : tie.Need-loop-holds Inv-loop μ-loop
 loop-holds c = (omega arith, (omega (arith, c .new .ensures), no-keys _ (c .new .ensures)))
 
--- src/lib.rt:317:17
 mul-e : tie.Need-mul-e Inv-loop μ-loop
 mul-e c = omega (arith, c .before .before .before .pre)
 
--- src/lib.rt:317:17
 element-copy-out-e : tie.Need-element-copy-out-e Inv-loop μ-loop
 element-copy-out-e c = omega (arith, c .before .before .before .pre)
 
--- src/lib.rt:318:13
 gather-requires : tie.Need-gather-requires Inv-loop μ-loop
 gather-requires c κs = c .before .before .loop .inv .1 .0
 
--- src/lib.rt:320:13
 returns : tie.Need-returns Inv-loop μ-loop
 returns c =
     let len = unmapped _ (c .before .before .before .before .before .before .args .t1 .list) 64 (c .before .before .before .before .before .before .good .0 .1 .1 .1 .1 .0 .1 .0 .1) in
     list-over (c .before .before .before .before .before .before .args .t1) (omega (arith, c .before .before .before .before .before .before .pre)) (c .before .before .before .before .loop .i) _ (omega arith) _ (c .before .before .before .before .loop .inv .1 .1) _ (c .before .gather .ensures) (c .if1 .taken)
 
--- src/lib.rt:324:9
 add-i : tie.Need-add-i Inv-loop μ-loop
 add-i c = omega (arith, c .before .before .before .before .before .before .before .pre)
 
--- src/lib.rt:316:5
 loop-less : tie.Need-loop-less Inv-loop μ-loop
 loop-less c = omega arith
 
--- src/lib.rt:316:5
 loop-again : tie.Need-loop-again Inv-loop μ-loop
 loop-again c =
     let len = unmapped _ (c .before .before .before .before .before .before .before .args .t1 .list) 64 (c .before .before .before .before .before .before .before .good .0 .1 .1 .1 .1 .0 .1 .0 .1) in
     (omega arith, list-on (c .before .before .before .before .before .before .before .args .t1) (omega (arith, c .before .before .before .before .before .before .before .pre)) (c .before .before .before .before .before .loop .i) _ (omega arith) _ (c .before .before .before .before .before .loop .inv .1 .1) _ (c .before .before .gather .ensures) (c .before .if1 .left))
 
--- src/lib.rt:309:1
 returns-2 : tie.Need-returns-2 Inv-loop μ-loop
 returns-2 c = gathered _ _ _ _ (c .before .loop .inv .1 .0) (c .before .loop .inv .1 .1) (ap held-by (threads-whole (c .before .before .before .args .t1) (c .before .loop .i) (omega arith)))
 

@@ -1,3 +1,4 @@
+-- `explore::same` meets its contract. Assumes nothing.
 use borrow.Author.Tests.{not-true, not-false}
 use mathlib.Core.Path.{_≡_, refl, sym, ap, _∙_}
 use mathlib.Core.List.{List, [], _∷_, _++_}
@@ -21,71 +22,55 @@ Inv-loop work j s base n m i₀ i = (i ≤ n) × ((k : ℕ) → k < i → thread
 abbrev μ-loop : tie.MeasureT-loop
 μ-loop work j s base n m i₀ i = n - i
 
--- src/lib.rt:486:16
 mul-base : tie.Need-mul-base Inv-loop μ-loop
 mul-base c = omega (arith, c .before .pre .0)
 
--- src/lib.rt:488:13
 shared-slice-read-m : tie.Need-shared-slice-read-m Inv-loop μ-loop
 shared-slice-read-m c = omega (arith, c .before .before .pre .0)
 
--- src/lib.rt:488:13
 cast-m : tie.Need-cast-m Inv-loop μ-loop
 cast-m c = omega (arith, c .before .shared-slice-known .given (578 * c .before .before .args .j))
 
--- src/lib.rt:490:9
 returns : tie.Need-returns Inv-loop μ-loop
 returns c =
     let len = unmapped _ (c .before .before .before .args .t3 .list) 64 (c .before .before .before .good .1 .1 .0 .1 .1 .1 .1 .0 .1 .0 .1) in
     other-count (c .before .before .before .args .t3) (omega (arith, c .before .before .before .pre .1)) _ _ (c .if1 .taken)
 
--- src/lib.rt:493:5
 loop-holds : tie.Need-loop-holds Inv-loop μ-loop
 loop-holds c = (omega arith, λ k b. absurd (omega arith))
 
--- src/lib.rt:494:17
 mul-e : tie.Need-mul-e Inv-loop μ-loop
 mul-e c = omega (arith, c .before .before .before .before .before .pre .1)
 
--- src/lib.rt:494:17
 element-copy-out-e : tie.Need-element-copy-out-e Inv-loop μ-loop
 element-copy-out-e c = omega (arith, c .before .before .before .before .before .pre .1)
 
--- src/lib.rt:495:30
 add-same-entry : tie.Need-add-same-entry Inv-loop μ-loop
 add-same-entry c = omega (arith, c .before .before .before .before .before .before .pre .0)
 
--- src/lib.rt:495:41
 mul-same-entry : tie.Need-mul-same-entry Inv-loop μ-loop
 mul-same-entry c = omega (arith, c .before .before .before .before .before .before .pre .1)
 
--- src/lib.rt:495:30
 add-same-entry-2 : tie.Need-add-same-entry-2 Inv-loop μ-loop
 add-same-entry-2 c = omega (arith, c .before .before .before .before .before .before .pre .0, c .before .before .before .before .before .before .pre .1)
 
--- src/lib.rt:495:13
 same-entry-requires : tie.Need-same-entry-requires Inv-loop μ-loop
 same-entry-requires c κs = omega (arith, c .before .before .before .before .before .before .pre .0, c .before .before .before .before .before .before .pre .1)
 
--- src/lib.rt:496:13
 returns-2 : tie.Need-returns-2 Inv-loop μ-loop
 returns-2 c =
     let len = unmapped _ (c .before .before .before .before .before .before .before .before .args .t3 .list) 64 (c .before .before .before .before .before .before .before .before .good .1 .1 .0 .1 .1 .1 .1 .0 .1 .0 .1) in
     other-entry (c .before .before .before .before .before .before .before .before .args .t3) (omega (arith, c .before .before .before .before .before .before .before .before .pre .1)) (c .before .before .before .before .before .before .before .before .args .work .now) (c .before .before .before .before .before .before .before .before .args .j) (c .before .before .before .before .before .if1 .left) (c .before .before .before .before .loop .i) (omega arith) (sym (c .before .same-entry .ensures) ∙ not-true (c .before .same-entry .result) (c .if2 .taken))
 
--- src/lib.rt:498:9
 add-i : tie.Need-add-i Inv-loop μ-loop
 add-i c = omega (arith, c .before .before .before .before .before .before .before .before .pre .1)
 
--- src/lib.rt:493:5
 loop-less : tie.Need-loop-less Inv-loop μ-loop
 loop-less c = omega arith
 
--- src/lib.rt:493:5
 loop-again : tie.Need-loop-again Inv-loop μ-loop
 loop-again c = (omega arith, same-more (c .before .before .before .before .before .before .before .before .args .t3 .list) (c .before .before .before .before .before .before .before .before .args .work .now) (578 * c .before .before .before .before .before .before .before .before .args .j + 2) (c .before .before .before .before .loop .i) (c .before .before .before .before .loop .inv .1) (sym (not-false (c .before .same-entry .result) (c .if2 .left)) ∙ c .before .same-entry .ensures))
 
--- src/lib.rt:482:1
 returns-3 : tie.Need-returns-3 Inv-loop μ-loop
 returns-3 c =
     let len = unmapped _ (c .before .before .before .before .before .args .t3 .list) 64 (c .before .before .before .before .before .good .1 .1 .0 .1 .1 .1 .1 .0 .1 .0 .1) in

@@ -1,3 +1,4 @@
+-- `explore::same_entry` meets its contract. Assumes nothing.
 use mathlib.Core.Path.{_≡_, refl, sym, ap, _∙_}
 use Prim.Native.Nat.{ℕ, _≤_, _<_, _+_, _-_}
 use native.Mathlib.Omega.{arith}
@@ -15,53 +16,41 @@ Inv-loop work at e t₀ t = (t ≤ 8) × ((k : ℕ) → k < t → getD work (at 
 abbrev μ-loop : tie.MeasureT-loop
 μ-loop work at e t₀ t = 8 - t
 
--- src/lib.rt:469:16
 shared-slice-read-if1 : tie.Need-shared-slice-read-if1 Inv-loop μ-loop
 shared-slice-read-if1 c = omega arith
 
--- src/lib.rt:470:9
 returns : tie.Need-returns Inv-loop μ-loop
 returns c = differ-on _ _ _ (c .if1 .taken)
 
--- src/lib.rt:473:5
 loop-holds : tie.Need-loop-holds Inv-loop μ-loop
 loop-holds c = (omega arith, λ k b. absurd (omega arith))
 
--- src/lib.rt:474:12
 element-copy-out-if2 : tie.Need-element-copy-out-if2 Inv-loop μ-loop
 element-copy-out-if2 c = omega arith
 
--- src/lib.rt:474:29
 add-if2 : tie.Need-add-if2 Inv-loop μ-loop
 add-if2 c = omega arith
 
--- src/lib.rt:474:29
 add-if2-2 : tie.Need-add-if2-2 Inv-loop μ-loop
 add-if2-2 c = omega arith
 
--- src/lib.rt:474:24
 shared-slice-read-if2 : tie.Need-shared-slice-read-if2 Inv-loop μ-loop
 shared-slice-read-if2 c = omega arith
 
--- src/lib.rt:475:13
 returns-2 : tie.Need-returns-2 Inv-loop μ-loop
 returns-2 c =
     let len : length (c .before .before .before .before .before .before .before .args .t3 .had) ≡ 8 = search needs in
     differ-had _ _ (c .before .before .before .before .before .before .before .args .t3) len (c .before .before .before .before .loop .t) (omega arith) (c .if2 .taken)
 
--- src/lib.rt:477:9
 add-t : tie.Need-add-t Inv-loop μ-loop
 add-t c = omega arith
 
--- src/lib.rt:473:5
 loop-less : tie.Need-loop-less Inv-loop μ-loop
 loop-less c = omega arith
 
--- src/lib.rt:473:5
 loop-again : tie.Need-loop-again Inv-loop μ-loop
 loop-again c = (omega arith, eq-more (c .before .before .before .before .before .before .before .args .work .now) (c .before .before .before .before .before .before .before .args .t3 .had) (c .before .before .before .before .before .before .before .args .at) (c .before .before .before .before .loop .t) (c .before .before .before .before .loop .inv .1) (c .if2 .left))
 
--- src/lib.rt:465:1
 returns-3 : tie.Need-returns-3 Inv-loop μ-loop
 returns-3 c =
     let len : length (c .before .before .before .before .args .t3 .had) ≡ 8 = search needs in

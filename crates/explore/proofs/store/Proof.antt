@@ -1,3 +1,4 @@
+-- `explore::store` meets its contract. Assumes nothing.
 use mathlib.Core.Path.{_≡_, refl, sym, ap, _∙_}
 use mathlib.Core.Logic.{_⊎_, inl, inr}
 use mathlib.Core.List.{List, [], _∷_, _++_}
@@ -21,71 +22,54 @@ Inv-loop work₀ j count s base n i₀ work i = (i ≤ n) × ((length work ≡ l
 abbrev μ-loop : tie.MeasureT-loop
 μ-loop work₀ j count s base n i₀ work i = n - i
 
--- src/lib.rt:425:16
 mul-base : tie.Need-mul-base Inv-loop μ-loop
 mul-base c = omega (arith, c .before .pre .1)
 
--- src/lib.rt:427:18
 cast-work : tie.Need-cast-work Inv-loop μ-loop
 cast-work c = omega (arith, c .before .pre .0)
 
--- src/lib.rt:427:5
 slice-write-work : tie.Need-slice-write-work Inv-loop μ-loop
 slice-write-work c = omega (arith, c .before .pre .1)
 
--- src/lib.rt:428:10
 add-work : tie.Need-add-work Inv-loop μ-loop
 add-work c = omega (arith, c .before .pre .1)
 
--- src/lib.rt:428:5
 slice-write-work-2 : tie.Need-slice-write-work-2 Inv-loop μ-loop
 slice-write-work-2 c = omega (arith, c .before .pre .1, length-set (c .before .args .work .now) (578 * c .before .args .j) (c .before .args .t3 .n))
 
--- src/lib.rt:430:5
 loop-holds : tie.Need-loop-holds Inv-loop μ-loop
 loop-holds c = (omega arith, (refl, (λ k b. absurd (omega arith), λ k b. refl)))
 
--- src/lib.rt:431:17
 mul-e : tie.Need-mul-e Inv-loop μ-loop
 mul-e c = omega (arith, c .before .before .before .pre .0)
 
--- src/lib.rt:431:17
 element-copy-out-e : tie.Need-element-copy-out-e Inv-loop μ-loop
 element-copy-out-e c = omega (arith, c .before .before .before .pre .0)
 
--- src/lib.rt:432:25
 add-put-entry : tie.Need-add-put-entry Inv-loop μ-loop
 add-put-entry c = omega (arith, c .before .before .before .before .before .pre .1)
 
--- src/lib.rt:432:36
 mul-put-entry : tie.Need-mul-put-entry Inv-loop μ-loop
 mul-put-entry c = omega (arith, c .before .before .before .before .before .pre .0)
 
--- src/lib.rt:432:25
 add-put-entry-2 : tie.Need-add-put-entry-2 Inv-loop μ-loop
 add-put-entry-2 c = omega (arith, c .before .before .before .before .before .pre .0, c .before .before .before .before .before .pre .1)
 
--- src/lib.rt:432:9
 put-entry-requires : tie.Need-put-entry-requires Inv-loop μ-loop
 put-entry-requires c κs = omega (arith, c .before .before .before .before .before .pre .0, c .before .before .before .before .before .pre .1, c .before .before .before .loop .inv .1 .0, length-set (c .before .before .before .before .before .args .work .now) (578 * c .before .before .before .before .before .args .j) (c .before .before .before .before .before .args .t3 .n), length-set (set (c .before .before .before .before .before .args .work .now) (578 * c .before .before .before .before .before .args .j) (c .before .before .before .before .before .args .t3 .n)) (578 * c .before .before .before .before .before .args .j + 1) (c .before .before .before .before .before .args .count))
 
--- src/lib.rt:433:9
 add-i : tie.Need-add-i Inv-loop μ-loop
 add-i c = omega (arith, c .before .before .before .before .before .before .before .before .pre .0)
 
--- src/lib.rt:430:5
 loop-less : tie.Need-loop-less Inv-loop μ-loop
 loop-less c = omega arith
 
--- src/lib.rt:430:5
 loop-again : tie.Need-loop-again Inv-loop μ-loop
 loop-again c = (omega arith, (c .before .before .put-entry .ensures .size ∙ c .before .before .before .before .before .before .loop .inv .1 .0, (store-more (c .before .before .before .before .before .before .loop .work) _ (578 * c .before .before .before .before .before .before .before .before .args .j + 2) (c .before .before .before .before .before .before .loop .i) (c .before .before .before .before .before .before .before .before .args .t3 .list) (c .before .before .put-entry .ensures) (c .before .before .before .before .before .before .loop .inv .1 .1 .0), store-else (c .before .before .before .before .before .before .loop .work) _ (578 * c .before .before .before .before .before .before .before .before .args .j + 2) (c .before .before .before .before .before .before .loop .i) (c .before .before .before .before .before .before .before .before .args .t3 .list) (c .before .before .put-entry .ensures) (set (set (c .before .before .before .before .before .before .before .before .args .work .now) (578 * c .before .before .before .before .before .before .before .before .args .j) (c .before .before .before .before .before .before .before .before .args .t3 .n)) (578 * c .before .before .before .before .before .before .before .before .args .j + 1) (c .before .before .before .before .before .before .before .before .args .count)) (c .before .before .before .before .before .before .loop .inv .1 .1 .1))))
 
--- src/lib.rt:421:1
 same-length : tie.Need-same-length Inv-loop μ-loop
 same-length c = c .before .loop .inv .1 .0 ∙ length-set (set (c .before .before .before .args .work .now) (578 * c .before .before .before .args .j) (c .before .before .before .args .t3 .n)) (578 * c .before .before .before .args .j + 1) (c .before .before .before .args .count) ∙ length-set (c .before .before .before .args .work .now) (578 * c .before .before .before .args .j) (c .before .before .before .args .t3 .n)
 
--- src/lib.rt:421:1
 returns : tie.Need-returns Inv-loop μ-loop
 returns c =
     let len = unmapped _ (c .before .before .before .args .t3 .list) 64 (c .before .before .before .good .1 .1 .0 .1 .1 .1 .1 .0 .1 .0 .1) in

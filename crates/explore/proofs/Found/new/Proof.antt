@@ -1,3 +1,4 @@
+-- `explore::Found::new` meets its contract. Assumes nothing.
 use borrow.Author.Needs.{needs}
 use Rattle.explore.proofs.Bits.{zeros-unmarked}
 use Rattle.explore.proofs.Found.new.Statement.{statement}
@@ -5,7 +6,6 @@ use Rattle.explore.proofs.Found.new.Tie as tie
 use Rattle.explore.proofs.Found.new.Reads as reads
 use Rattle.explore.proofs.Found.new.Lts as lts
 
--- src/lib.rt:67:5
 returns : tie.Need-returns
 returns c = (search needs, λ r. zeros-unmarked 64 r)
 

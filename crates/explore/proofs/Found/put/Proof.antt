@@ -1,3 +1,4 @@
+-- `explore::Found::put` meets its contract. Assumes nothing.
 use mathlib.Core.Path.{_≡_, refl, sym, ap, _∙_}
 use mathlib.Core.List.{_∷_, []}
 use lib.ListN.{length, take}
@@ -12,19 +13,15 @@ use Rattle.explore.proofs.Found.put.Tie as tie
 use Rattle.explore.proofs.Found.put.Reads as reads
 use Rattle.explore.proofs.Found.put.Lts as lts
 
--- src/lib.rt:92:9
 mul-e : tie.Need-mul-e
 mul-e c = search needs
 
--- src/lib.rt:92:9
 element-set-from-e : tie.Need-element-set-from-e
 element-set-from-e c = search needs
 
--- src/lib.rt:93:18
 add-self : tie.Need-add-self
 add-self c = search needs
 
--- src/lib.rt:87:5
 returns : tie.Need-returns
 unfolding threads-of
 returns c =

@@ -1,3 +1,4 @@
+-- `explore::Marks::with` meets its contract. Assumes nothing.
 use mathlib.Core.Path.{_≡_}
 use borrow.Author.Needs.{needs}
 use borrow.Author.Tests.{eq-eqb}
@@ -11,11 +12,9 @@ use Rattle.explore.proofs.Marks.with.Tie as tie
 use Rattle.explore.proofs.Marks.with.Reads as reads
 use Rattle.explore.proofs.Marks.with.Lts as lts
 
--- src/lib.rt:55:9
 element-write-self : tie.Need-element-write-self
 element-write-self c = search needs
 
--- src/lib.rt:51:5
 returns : tie.Need-returns
 unfolding count-of
 returns c =

@@ -1,3 +1,4 @@
+-- `explore::Regs::add` meets its contract. Assumes nothing.
 use mathlib.Core.Path.{_≡_, refl, sym, ap, _∙_}
 use native.Mathlib.Omega.{arith}
 use Rattle.explore.proofs.Bits.{unmapped}
@@ -10,27 +11,22 @@ use Rattle.explore.proofs.Regs.add.Lts as lts
 use Rattle.explore.proofs.Regs.find.Reads as find-reads
 use Rattle.explore.proofs.Regs.with.Reads as with-reads
 
--- src/lib.rt:275:13
 find-requires : tie.Need-find-requires
 find-requires c κs = search needs
 
--- src/lib.rt:277:13
 returns : tie.Need-returns
 returns c =
     let len = unmapped _ (c .before .before .args .self .list) 64 (c .before .before .good .0 .1 .1 .1 .0 .1 .0 .1) in
     add-old (c .before .before .args .self) _ (c .before .before .pre) (keys-length (c .before .before .args .self) (omega (arith, c .before .before .pre))) _ (c .before .find .ensures) (c .if1 .taken)
 
--- src/lib.rt:280:13
 returns-2 : tie.Need-returns-2
 returns-2 c =
     let len = unmapped _ (c .before .before .before .args .self .list) 64 (c .before .before .before .good .0 .1 .1 .1 .0 .1 .0 .1) in
     add-full (c .before .before .before .args .self) _ (c .before .before .before .pre) (keys-length (c .before .before .before .args .self) (omega (arith, c .before .before .before .pre))) _ (c .before .before .find .ensures) (c .before .if1 .left) (c .if2 .taken)
 
--- src/lib.rt:282:39
 with-requires : tie.Need-with-requires
 with-requires c κs = search needs
 
--- src/lib.rt:270:5
 returns-3 : tie.Need-returns-3
 returns-3 c =
     let len = unmapped _ (c .before .before .before .before .args .self .list) 64 (c .before .before .before .before .good .0 .1 .1 .1 .0 .1 .0 .1) in

@@ -1,3 +1,4 @@
+-- `explore::Regs::find` meets its contract. Assumes nothing.
 use mathlib.Core.Path.{_≡_, refl, sym, ap, _∙_}
 use mathlib.Core.Logic.{_⊎_, inl, inr, ⊎-elim}
 use Prim.Native.Nat.{_≤_, _+_, _-_}
@@ -19,39 +20,31 @@ Inv-loop t o self n i₀ i = (i ≤ n) × (index (t, o) (keys-of self) ≡ i + i
 abbrev μ-loop : tie.MeasureT-loop
 μ-loop t o self n i₀ i = n - i
 
--- src/lib.rt:248:9
 loop-holds : tie.Need-loop-holds Inv-loop μ-loop
 loop-holds c = (omega arith, omega arith)
 
--- src/lib.rt:249:21
 mul-k : tie.Need-mul-k Inv-loop μ-loop
 mul-k c = omega arith
 
--- src/lib.rt:249:21
 element-copy-out-k : tie.Need-element-copy-out-k Inv-loop μ-loop
 element-copy-out-k c = omega arith
 
--- src/lib.rt:252:21
 returns : tie.Need-returns Inv-loop μ-loop
 returns c =
     let len = unmapped _ (c .before .before .before .before .before .before .before .args .t1 .list) 64 (c .before .before .before .before .before .before .before .good .0 .1 .1 .1 .0 .1 .0 .1) in
     find-hit (c .before .before .before .before .before .before .before .args .t1) (omega arith) _ _ _ (c .before .before .before .before .before .before .loop .inv .1) (omega arith) (c .before .before .if1 .taken) (c .if2 .taken)
 
--- src/lib.rt:255:13
 add-i : tie.Need-add-i Inv-loop μ-loop
 add-i c = omega arith
 
--- src/lib.rt:248:9
 loop-less : tie.Need-loop-less Inv-loop μ-loop
 loop-less c = omega arith
 
--- src/lib.rt:248:9
 loop-again : tie.Need-loop-again Inv-loop μ-loop
 loop-again c =
     let len = unmapped _ (c .before .before .before .before .before .args .t1 .list) 64 (c .before .before .before .before .before .good .0 .1 .1 .1 .0 .1 .0 .1) in
     (omega arith, find-miss (c .before .before .before .before .before .args .t1) (omega arith) _ _ _ (c .before .before .before .before .loop .inv .1) (omega arith) (⊎-elim (λ w p q. w .2 .left q) (λ w p q. w .left p) (c .if1 .came)))
 
--- src/lib.rt:242:5
 returns-2 : tie.Need-returns-2 Inv-loop μ-loop
 returns-2 c =
     let len = unmapped _ (c .before .before .args .t1 .list) 64 (c .before .before .good .0 .1 .1 .1 .0 .1 .0 .1) in

@@ -1,3 +1,4 @@
+-- `explore::Regs::with` meets its contract. Assumes nothing.
 use mathlib.Core.Path.{_≡_, refl, sym, ap, _∙_}
 use native.Mathlib.Omega.{arith}
 use Rattle.explore.proofs.Bits.{unmapped}
@@ -8,19 +9,15 @@ use Rattle.explore.proofs.Regs.with.Tie as tie
 use Rattle.explore.proofs.Regs.with.Reads as reads
 use Rattle.explore.proofs.Regs.with.Lts as lts
 
--- src/lib.rt:265:9
 mul-t7 : tie.Need-mul-t7
 mul-t7 c = search needs
 
--- src/lib.rt:265:9
 element-set-from-self : tie.Need-element-set-from-self
 element-set-from-self c = search needs
 
--- src/lib.rt:266:18
 add-self : tie.Need-add-self
 add-self c = search needs
 
--- src/lib.rt:260:5
 returns : tie.Need-returns
 returns c =
     let len = unmapped _ (c .args .t1 .list) 64 (c .good .0 .1 .1 .1 .0 .1 .0 .1) in
