@@ -1,1 +1,4 @@
 pub mod Writing
+pub mod Splitting
+pub mod Choosing
+pub mod Taken

@@ -1,2 +1,4 @@
 pub mod Text
 pub mod Lines
+pub mod Printed
+pub mod Steps

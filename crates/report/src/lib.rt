@@ -3,12 +3,21 @@ ghost use mathlib.Core.Path.{_≡_};
 ghost use mathlib.Core.List.{[], _∷_};
 ghost use Prim.Native.Nat.{_+_, _<_, _≤_};
 ghost use lib.IntN.{pos};
-ghost use lib.ListN.{length, getD};
+ghost use lib.ListN.{length, getD, drop};
 ghost use Rattle.report.specs.Text.{digits, decimal, shown, Wrote};
 ghost use Rattle.report.specs.Lines.{refusedLine, refusedAt, tableLine, answerLine, spaced};
+ghost use Rattle.report.specs.Printed.{lines, toldLine, recordLine, builtLines, faultLine, madeLines, Prints};
+ghost use Rattle.report.specs.Steps.{lineLength, room, Records, Sound};
 ghost use Rattle.ground.specs.Lists.{each};
 ghost use Rattle.ground.specs.Place.{placeOf};
+ghost use Rattle.card.specs.Decode.{tableAt};
+ghost use Rattle.run.specs.Runs.{toldOf};
+ghost use Rattle.loader.specs.Judges.{Judges};
+ghost use Rattle.pattern.specs.Maker.{given};
+use build::Built;
 use ground::Place;
+use pattern::Made;
+use run::Ran;
 
 // One byte at a place.
 fn put_byte(out: &mut [u8], at: usize, b: u8) -> usize
@@ -78,7 +87,7 @@ fn put_number(out: &mut [u8], at: usize, n: usize) -> usize
 // A refusal by its number.
 fn put_refused(out: &mut [u8], at: usize, code: u8) -> usize
     requires { ⌜ at + 16 ≤ length (now out) ⌝ }
-    ensures { λ r. ⌜ Wrote (now (out .entry)) (now (out .exit)) at r (refusedLine code) ⌝ }
+    ensures { λ r. ⌜ Wrote (now (out .entry)) (now (out .exit)) at r (refusedLine code) × (r ≤ at + 16) ⌝ }
 {
     let number = put_text(out, at, b"refused ");
     let end = put_number(out, number, code as usize);
@@ -100,7 +109,7 @@ fn put_refused_at(out: &mut [u8], at: usize, code: u8, place: usize) -> usize
 // What was built: the table's bytes, its situations, its registers.
 fn put_table(out: &mut [u8], at: usize, bytes: usize, sits: usize, regs: usize) -> usize
     requires { ⌜ at + 51 ≤ length (now out) ⌝ }
-    ensures { λ r. ⌜ Wrote (now (out .entry)) (now (out .exit)) at r (tableLine bytes sits regs) ⌝ }
+    ensures { λ r. ⌜ Wrote (now (out .entry)) (now (out .exit)) at r (tableLine bytes sits regs) × (r ≤ at + 51) ⌝ }
 {
     let first = put_text(out, at, b"table ");
     let word = put_number(out, first, bytes);
@@ -137,9 +146,136 @@ fn put_places(out: &mut [u8], at: usize, places: [i16; 8]) -> usize
 // The answer of a line and its positions.
 fn put_answer(out: &mut [u8], at: usize, answer: u8, places: [i16; 8]) -> usize
     requires { ⌜ at + 72 ≤ length (now out) ⌝ }
-    ensures { λ r. ⌜ Wrote (now (out .entry)) (now (out .exit)) at r (answerLine answer places) ⌝ }
+    ensures { λ r. ⌜ Wrote (now (out .entry)) (now (out .exit)) at r (answerLine answer places) × (r ≤ at + 72) ⌝ }
 {
     let first = put_number(out, at, answer as usize);
     let end = put_places(out, first, places);
     put_byte(out, end, 10)
+}
+
+// ---- from the input to the lines
+
+// Where the line at a place ends: at its byte 10, or with the input.
+fn line_end(s: &[u8], from: usize) -> usize
+    requires { ⌜ from ≤ length (now s) ⌝ }
+    ensures { λ r. ⌜ (r ≡ from + lineLength (drop from (now (s .entry)))) × (r ≤ length (now (s .entry))) ⌝ }
+{
+    let mut i = from;
+    while i < s.len() {
+        if s[i] == 10 {
+            return i;
+        }
+        i += 1;
+    }
+    i
+}
+
+// What a run told of a record.
+fn put_told(out: &mut [u8], at: usize, told: Ran) -> usize
+    requires { ⌜ at + 72 ≤ length (now out) ⌝ }
+    ensures { λ r. ⌜ Wrote (now (out .entry)) (now (out .exit)) at r (toldLine (toldOf told)) × (r ≤ at + 72) ⌝ }
+{
+    let code = told.code;
+    if code != 0 {
+        return put_refused(out, at, code);
+    }
+    let places = told.places;
+    put_answer(out, at, told.answer, places)
+}
+
+// A record: what a taken table tells of it, or that it is too long.
+fn put_record(out: &mut [u8], at: usize, table: &[u8], places: &[usize; 96], line: &[u8]) -> usize
+    requires { ⌜ at + 72 ≤ length (now out) ⌝ }
+    requires { ⌜ Judges (now table) 0 (now places) ⌝ }
+    ensures { λ r. ⌜ Wrote (now (out .entry)) (now (out .exit)) at r (recordLine (tableAt (now (table .entry))) (now (line .entry))) × (r ≤ at + 72) ⌝ }
+{
+    if 32767 < line.len() {
+        return put_refused(out, at, 15);
+    }
+    let told = run::run_taken(table, places, line);
+    put_told(out, at, told)
+}
+
+// The records from a place on.
+fn put_records(
+    out: &mut [u8],
+    at: usize,
+    table: &[u8],
+    places: &[usize; 96],
+    input: &[u8],
+    from: usize,
+) -> usize
+    requires { ⌜ Records (now input) (now table) (now places) from at (length (now out)) ⌝ }
+    ensures { λ r. ⌜ Wrote (now (out .entry)) (now (out .exit)) at r (each (recordLine (tableAt (now (table .entry)))) (lines (drop from (now (input .entry))))) ⌝ }
+{
+    let mut end = at;
+    let mut place = from;
+    while place < input.len() {
+        let stop = line_end(input, place);
+        end = put_record(out, end, table, places, &input[place..stop]);
+        place = stop + 1;
+    }
+    end
+}
+
+// The table line and the records, or the builder's refusal alone. The table is judged once.
+fn put_built(out: &mut [u8], table: &[u8], built: Built, input: &[u8], from: usize) -> usize
+    requires { ⌜ (room ≤ length (now out)) × (length (now input) ≤ 65536) ⌝ }
+    requires { ⌜ Sound built (now table) ⌝ }
+    ensures { λ r. ⌜ Wrote (now (out .entry)) (now (out .exit)) 0 r (builtLines (record { result = built; out = now (table .entry) }) (lines (drop from (now (input .entry))))) ⌝ }
+{
+    let code = built.code;
+    if code != 0 {
+        return put_refused(out, 0, code);
+    }
+    let length = built.length;
+    let card = &table[0..length];
+    let judged = loader::judge(card);
+    let places = judged.places;
+    let at = put_table(out, 0, length, built.situations, built.registers);
+    put_records(out, at, card, &places, input, from)
+}
+
+// A pattern's refusal, with its place where it has one.
+fn put_fault(out: &mut [u8], code: u8, place: usize) -> usize
+    requires { ⌜ 27 ≤ length (now out) ⌝ }
+    ensures { λ r. ⌜ Wrote (now (out .entry)) (now (out .exit)) 0 r (faultLine code place) ⌝ }
+{
+    if code == 2 {
+        return put_refused_at(out, 0, code, place);
+    }
+    if code == 3 {
+        return put_refused_at(out, 0, code, place);
+    }
+    put_refused(out, 0, code)
+}
+
+// What is printed once the pattern is made or refused.
+fn put_made(out: &mut [u8], net: &[u8], made: Made, input: &[u8], from: usize) -> usize
+    requires { ⌜ (room ≤ length (now out)) × (length (now input) ≤ 65536) ⌝ }
+    requires { ⌜ (made .code ≡ 0 → made .length ≤ length (now net)) ⌝ }
+    ensures { λ r. ⌜ Wrote (now (out .entry)) (now (out .exit)) 0 r (madeLines (given made (now (net .entry))) (lines (drop from (now (input .entry))))) ⌝ }
+{
+    let code = made.code;
+    if code != 0 {
+        return put_fault(out, code, made.place);
+    }
+    let length = made.length;
+    let mut work = [0u8; 65536];
+    let mut table = [0u8; 65536];
+    let built = build::build(&net[0..length], &mut work, &mut table);
+    put_built(out, &table, built, input, from)
+}
+
+// All that the program prints for an input.
+pub fn answer(input: &[u8], out: &mut [u8; 4718643]) -> usize
+    ensures { λ r. ⌜ Prints (now (input .entry)) (now (out .exit)) r ⌝ }
+{
+    if 65536 < input.len() {
+        return put_text(out, 0, b"input over 65536\n");
+    }
+    let end = line_end(input, 0);
+    let mut net = [0u8; 2148];
+    let made = pattern::pattern(&input[0..end], &mut net);
+    put_made(out, &net, made, input, end + 1)
 }

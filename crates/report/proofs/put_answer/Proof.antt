@@ -1,4 +1,5 @@
 -- `report::put_answer` meets its contract: its texts one after the other. Assumes nothing.
+use native.Mathlib.Omega.{arith}
 use borrow.Author.Needs.{needs}
 use Rattle.report.specs.Lines.{answerLine}
 use Rattle.report.proofs.Writing.{wrote-then}
@@ -19,7 +20,7 @@ same-length c = search needs
 
 returns : tie.Need-returns
 unfolding answerLine
-returns c = wrote-then (c .before .before .before .before .before .before .before .before .before .before .put-number .ensures .0) (wrote-then (c .before .before .before .before .before .before .put-places .ensures .0) (c .before .before .put-byte .ensures))
+returns c = (wrote-then (c .before .before .before .before .before .before .before .before .before .before .put-number .ensures .0) (wrote-then (c .before .before .before .before .before .before .put-places .ensures .0) (c .before .before .put-byte .ensures)), omega arith)
 
 pub put-answer-spec : {M : Type 1} → statement M
 put-answer-spec =

@@ -1,4 +1,5 @@
 -- `report::put_refused` meets its contract: its texts one after the other. Assumes nothing.
+use native.Mathlib.Omega.{arith}
 use borrow.Author.Needs.{needs}
 use Rattle.report.specs.Lines.{refusedLine}
 use Rattle.report.proofs.Writing.{wrote-then}
@@ -22,7 +23,7 @@ same-length c = search needs
 
 returns : tie.Need-returns
 unfolding refusedLine
-returns c = wrote-then (c .before .before .before .before .before .before .before .before .before .before .put-text .ensures) (wrote-then (c .before .before .before .before .before .before .put-number .ensures .0) (c .before .before .put-byte .ensures))
+returns c = (wrote-then (c .before .before .before .before .before .before .before .before .before .before .put-text .ensures) (wrote-then (c .before .before .before .before .before .before .put-number .ensures .0) (c .before .before .put-byte .ensures)), omega arith)
 
 pub put-refused-spec : {M : Type 1} → statement M
 put-refused-spec =

@@ -1,4 +1,5 @@
 -- `report::put_table` meets its contract: its texts one after the other. Assumes nothing.
+use native.Mathlib.Omega.{arith}
 use borrow.Author.Needs.{needs}
 use Rattle.report.specs.Lines.{tableLine}
 use Rattle.report.proofs.Writing.{wrote-then}
@@ -40,7 +41,7 @@ same-length c = search needs
 
 returns : tie.Need-returns
 unfolding tableLine
-returns c = wrote-then (c .before .before .before .before .before .before .before .before .before .before .before .before .before .before .before .before .before .before .before .before .before .before .before .before .before .before .before .before .put-text .ensures) (wrote-then (c .before .before .before .before .before .before .before .before .before .before .before .before .before .before .before .before .before .before .before .before .before .before .before .before .put-number .ensures .0) (wrote-then (c .before .before .before .before .before .before .before .before .before .before .before .before .before .before .before .before .before .before .before .put-text2 .ensures) (wrote-then (c .before .before .before .before .before .before .before .before .before .before .before .before .before .before .before .put-number2 .ensures .0) (wrote-then (c .before .before .before .before .before .before .before .before .before .before .put-text3 .ensures) (wrote-then (c .before .before .before .before .before .before .put-number3 .ensures .0) (c .before .before .put-byte .ensures))))))
+returns c = (wrote-then (c .before .before .before .before .before .before .before .before .before .before .before .before .before .before .before .before .before .before .before .before .before .before .before .before .before .before .before .before .put-text .ensures) (wrote-then (c .before .before .before .before .before .before .before .before .before .before .before .before .before .before .before .before .before .before .before .before .before .before .before .before .put-number .ensures .0) (wrote-then (c .before .before .before .before .before .before .before .before .before .before .before .before .before .before .before .before .before .before .before .put-text2 .ensures) (wrote-then (c .before .before .before .before .before .before .before .before .before .before .before .before .before .before .before .put-number2 .ensures .0) (wrote-then (c .before .before .before .before .before .before .before .before .before .before .put-text3 .ensures) (wrote-then (c .before .before .before .before .before .before .put-number3 .ensures .0) (c .before .before .put-byte .ensures)))))), omega arith)
 
 pub put-table-spec : {M : Type 1} → statement M
 put-table-spec =

@@ -1,0 +1,85 @@
+-- `report::put_records` meets its contract: what is left of the records is still to be written. Assumes nothing.
+use Prim.Native.Nat.{_+_, _*_, _-_, _≤_}
+use native.Mathlib.Omega.{arith}
+use mathlib.Core.Path.{_≡_, subst}
+use borrow.Author.Needs.{needs}
+use lib.ListN.{length, drop}
+use Rattle.ground.specs.Lists.{each}
+use Rattle.card.specs.Decode.{tableAt}
+use Rattle.report.specs.Printed.{lines, recordLine}
+use Rattle.report.specs.Steps.{Going}
+use Rattle.report.proofs.Splitting.{going-none, going-on, going-done, next-line, no-line-left}
+use Rattle.report.proofs.put_records.Statement.{statement}
+use Rattle.report.proofs.put_records.Tie as tie
+
+abbrev Inv-loop : tie.InvT-loop
+Inv-loop out₀ at table places input from end₀ place₀ out end place = Going out₀ out at end (each (recordLine (tableAt table)) (lines (drop from input))) (each (recordLine (tableAt table)) (lines (drop place input))) × (end ≤ 51 + 72 * place)
+
+abbrev μ-loop : tie.MeasureT-loop
+μ-loop out₀ at table places input from end₀ place₀ out end place = length input - place
+
+loop-holds : tie.Need-loop-holds Inv-loop μ-loop
+loop-holds c = (going-none _ _ _, c .before .before .before .pre .low)
+
+line-end-requires : tie.Need-line-end-requires Inv-loop μ-loop
+line-end-requires c κs = search needs
+
+sub-put-record : tie.Need-sub-put-record Inv-loop μ-loop
+sub-put-record c = search needs
+
+part-put-record-start : tie.Need-part-put-record-start Inv-loop μ-loop
+part-put-record-start c = search needs
+
+part-put-record-end : tie.Need-part-put-record-end Inv-loop μ-loop
+part-put-record-end c = search needs
+
+put-record-requires : tie.Need-put-record-requires Inv-loop μ-loop
+put-record-requires c κs =
+    let p = c .before .before .before .before .before .before .before .before .pre in
+    let g = c .before .before .before .before .loop .inv in
+    let s = g .0 .wrote .size in
+    (omega (arith, g .1, p .few, p .wide), p .taken)
+
+add-place : tie.Need-add-place Inv-loop μ-loop
+add-place c = search needs
+
+loop-less : tie.Need-loop-less Inv-loop μ-loop
+loop-less c = search needs
+
+loop-again : tie.Need-loop-again Inv-loop μ-loop
+loop-again c =
+    let a = c .before .before .before .before .before .before .before .before .before .before .before .args in
+    let l = c .before .before .before .before .before .before .before .loop in
+    let e = c .before .before .before .before .before .line-end .ensures in
+    let w = c .before .before .put-record .ensures in
+    let n = next-line (recordLine (tableAt (a .table .now))) (a .input .now) (l .place) (c .before .before .before .before .before .before .loop-test .taken) (c .before .before .before .before .before .line-end .result) (e .0) in
+    let g = subst (Going (a .out .now) (l .out) (a .at) (l .end) (each (recordLine (tableAt (a .table .now))) (lines (drop (a .from) (a .input .now))))) n (l .inv .0) in
+    (going-on g (w .0), omega (arith, l .inv .1, w .1, e .0))
+
+same-length : tie.Need-same-length Inv-loop μ-loop
+same-length c = search needs
+
+returns : tie.Need-returns Inv-loop μ-loop
+returns c =
+    let a = c .before .before .before .before .before .args in
+    let l = c .before .loop in
+    let n = no-line-left (recordLine (tableAt (a .table .now))) (a .input .now) (l .place) (c .loop-test .left) in
+    going-done (subst (Going (a .out .now) (l .out) (a .at) (l .end) (each (recordLine (tableAt (a .table .now))) (lines (drop (a .from) (a .input .now))))) n (l .inv .0))
+
+pub put-records-spec : {M : Type 1} → statement M
+put-records-spec =
+    tie.close
+    (tie.spec
+    Inv-loop
+    μ-loop
+    loop-holds
+    line-end-requires
+    sub-put-record
+    part-put-record-start
+    part-put-record-end
+    put-record-requires
+    add-place
+    loop-less
+    loop-again
+    same-length
+    returns)
