@@ -1,6 +1,10 @@
 //! The exported calls, wrapped. Every wrapper lends buffers with guard bytes around them and reports
 //! where a promise about a buffer is broken: output touched on a refusal or past the result, work memory not zero.
 
+use std::io::Write;
+use std::path::Path;
+use std::process::{Command, Stdio};
+
 /// What fills a buffer before a call.
 const FILL: u8 = 0xa5;
 const GUARD: usize = 32;
@@ -30,6 +34,17 @@ extern "C" {
     fn cv_run(
         table: *const u8,
         table_len: usize,
+        line: *const u8,
+        line_len: usize,
+        answer: *mut u8,
+        places: *mut i16,
+    ) -> u8;
+    fn cv_mount(table: *const u8, table_len: usize, image: *mut u32, image_len: usize) -> u8;
+    fn cv_ride(
+        table: *const u8,
+        table_len: usize,
+        image: *const u32,
+        image_len: usize,
         line: *const u8,
         line_len: usize,
         answer: *mut u8,
@@ -168,4 +183,47 @@ pub fn build(net: &[u8], work_len: usize, out_len: usize) -> Result<Built, Strin
         return Err("! WORK NOT ZERO".to_string());
     }
     Ok(Built { code, situations, registers, table: out.first(length)?.to_vec() })
+}
+
+/// A table judged and written as an image of that length: the code and the image.
+pub fn mount(table: &[u8], len: usize) -> (u8, Vec<u32>) {
+    let mut image = vec![0xa5a5a5a5; len];
+    let code = unsafe { cv_mount(table.as_ptr(), table.len(), image.as_mut_ptr(), image.len()) };
+    (code, image)
+}
+
+/// A ride over an image: code, answer and eight places.
+pub fn ride(table: &[u8], image: &[u32], line: &[u8]) -> (u8, u8, [i16; 8]) {
+    let mut answer = 0;
+    let mut places = [0x5a5a; 8];
+    let code = unsafe {
+        cv_ride(
+            table.as_ptr(),
+            table.len(),
+            image.as_ptr(),
+            image.len(),
+            line.as_ptr(),
+            line.len(),
+            &mut answer,
+            places.as_mut_ptr(),
+        )
+    };
+    (code, answer, places)
+}
+
+/// The program itself: what it writes to standard output for an input.
+pub fn tagline(input: &[u8]) -> Vec<u8> {
+    let program = Path::new(env!("CARGO_MANIFEST_DIR")).join("../target/bin/tagline");
+    let mut child = Command::new(&program)
+        .stdin(Stdio::piped())
+        .stdout(Stdio::piped())
+        .spawn()
+        .unwrap_or_else(|why| panic!("{}: {why}; `rt check tagline` makes it", program.display()));
+    let mut to = child.stdin.take().expect("a pipe");
+    let text = input.to_vec();
+    // the program stops reading after 65,537 bytes, so what is left of a longer input may find no reader
+    let writer = std::thread::spawn(move || drop(to.write_all(&text)));
+    let out = child.wait_with_output().expect("the program ends").stdout;
+    writer.join().expect("the writer ends");
+    out
 }

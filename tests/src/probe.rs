@@ -4,7 +4,6 @@ use crate::calls;
 use crate::text::{bytes, hex, join};
 
 const BAD: &str = "? bad request";
-const NOT_YET: &str = "? not yet";
 
 /// The answer to one line.
 pub fn answer(line: &str) -> String {
@@ -27,7 +26,7 @@ fn told(line: &str) -> Told {
         ["field", len, from, to] => field(len, from, to),
         ["pattern", text, len] => pattern(text, len),
         ["build", net, work, out] => build(net, work, out),
-        ["tagline", _] => Some(Ok(NOT_YET.to_string())),
+        ["tagline", input] => Some(Ok(hex(&calls::tagline(&bytes(input)?)))),
         _ => None,
     }
 }

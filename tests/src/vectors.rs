@@ -37,6 +37,7 @@ pub fn fault(case: &str) -> Option<String> {
         "R" => run(&w),
         "P" => pattern(&w),
         "B" => build(&w),
+        "T" => program(&w),
         _ => Err("no such kind".to_string()),
     };
     match told {
@@ -88,6 +89,11 @@ fn build(w: &[&str]) -> Fits {
         (number(w[4]), number(w[5]), number(w[6]), number(w[7])),
     )?;
     if is(w[8], &b.table) { Ok(()) } else { Err(format!("another table: {}", hex(&b.table))) }
+}
+
+fn program(w: &[&str]) -> Fits {
+    let out = calls::tagline(&raw(w[1]));
+    if is(w[2], &out) { Ok(()) } else { Err(format!("another output: {}", String::from_utf8_lossy(&out))) }
 }
 
 fn field(w: &[&str]) -> Fits {

@@ -95,6 +95,34 @@ fn tables_against_the_judge() {
     });
 }
 
+/// A ride over the image of a taken table is the run; over any other image it is answered.
+#[test]
+fn rides() {
+    each("rides", |rng| {
+        let Some(table) = built(&make::net(rng)) else { return };
+        let len = 257 * table[4] as usize;
+        let (code, mut image) = calls::mount(&table, len);
+        assert_eq!(code, 0, "mount {}", hex(&table));
+        assert_eq!(calls::mount(&table, len - 1), (12, vec![0xa5a5a5a5; len - 1]), "mount {}", hex(&table));
+        for _ in 0..8 {
+            let line = rng.line(8, make::ALPHABET);
+            assert_eq!(calls::ride(&table, &image, &line), calls::run(&table, &line), "run {} {}", hex(&table), hex(&line));
+        }
+        let other = make::damaged(rng, &table);
+        let judged = calls::load(&other);
+        if judged != 0 {
+            assert_eq!(calls::mount(&other, len), (judged, vec![0xa5a5a5a5; len]), "mount {}", hex(&other));
+        }
+        for _ in 0..8 {
+            let at = rng.below(image.len());
+            image[at] = rng.next() as u32;
+            let (code, answer, places) = calls::ride(&other, &image, &rng.line(8, make::ALPHABET));
+            let told = code == 0 && answer != 255;
+            assert!(told || (answer == 255 && places == [-1; 8]), "a refusal tells nothing: {code} {answer}");
+        }
+    });
+}
+
 #[test]
 fn counts_one_by_one() {
     each("counts", |rng| {

@@ -7,6 +7,8 @@ ghost use Rattle.net.specs.Count.{byteCount};
 ghost use Rattle.reading.specs.Reading.{cutBy};
 ghost use Rattle.card.specs.Judged.{Judged};
 ghost use Rattle.run.specs.Runs.{Runs};
+ghost use Rattle.ride.specs.Image.{Mounts};
+ghost use Rattle.ride.specs.Ride.{ridden};
 ghost use Rattle.export.specs.Results.{told, made, built};
 ghost use Rattle.build.specs.Build.{Builds};
 ghost use Rattle.pattern.specs.Maker.{given, maker};
@@ -115,4 +117,24 @@ pub extern "C" fn cv_build(
     *situations = b.situations;
     *registers = b.registers;
     b.code
+}
+
+// A table judged once and written as an image that lines ride over: 257 numbers for each situation.
+#[no_mangle]
+pub extern "C" fn cv_mount(table: &[u8], image: &mut [u32]) -> u8
+    ensures { λ r. ⌜ Mounts (now (table .entry)) (now (image .entry)) (now (image .exit)) r ⌝ }
+{
+    ride::mount(table, image)
+}
+
+// A run over an image: on the image that mounting wrote of a taken table it is the run of that table.
+#[no_mangle]
+pub extern "C" fn cv_ride(table: &[u8], image: &[u32], line: &[u8], answer: &mut u8, places: &mut [i16; 8]) -> u8
+    ensures { λ r. ⌜ told r (now (answer .exit)) (now (places .exit)) ≡ ridden (now (table .entry)) (now (image .entry)) (now (line .entry)) ⌝ }
+{
+    let r = ride::ride(table, image, line);
+    let p = r.places;
+    *answer = r.answer;
+    *places = p;
+    r.code
 }
