@@ -639,10 +639,10 @@ static void draw(const vector<Sheet> &sheets, const string &path, const string &
     double most = 1;
     for (const Sheet &s : sheets)
         for (const Row &r : s.rows) most = std::max(most, r.ns);
-    const double low = 0.5, scale = (width - left - 70) / std::log(most / low); // a bar of no length is half a nanosecond
+    const double low = 0.25, scale = (width - left - 70) / std::log(most / low); // a bar of no length is a quarter nanosecond
     fprintf(f, "<svg xmlns=\"http://www.w3.org/2000/svg\" width=\"%d\" height=\"%d\" font-family=\"sans-serif\" font-size=\"10\">\n", width, height);
     fprintf(f, "<rect width=\"100%%\" height=\"100%%\" fill=\"white\"/>\n");
-    fprintf(f, "<text x=\"8\" y=\"16\" font-size=\"13\">Nanoseconds per byte, logarithmic from 0.5; least of many rounds</text>\n");
+    fprintf(f, "<text x=\"8\" y=\"16\" font-size=\"13\">Nanoseconds per byte, logarithmic from 0.25; least of many rounds</text>\n");
     fprintf(f, "<text x=\"8\" y=\"31\">%s</text>\n", escaped(date + (machine.empty() ? "" : ", " + machine)).c_str());
     int y = 42;
     for (const Sheet &s : sheets) {
