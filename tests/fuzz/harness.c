@@ -1,8 +1,9 @@
 /*
- * One input of the fuzzer, as one of the exported calls sees it, beside the plain C version of the call (bench/plain.c).
- * The proved library is not instrumented: the plain version is, and leads the fuzzer through the same cases. Every buffer
- * ends at a page that nobody may touch and has guard bytes before it; inputs lie in pages that cannot be written while the
- * call runs. A broken promise aborts: answers, lengths, places, what output and work memory hold afterwards.
+ * One input of the fuzzer, as one of the exported calls sees it, beside the plain C version of the call
+ * (bench/plain.c). The proved library is not instrumented: the plain version is, and leads the fuzzer through the same
+ * cases. Every buffer ends at a page that nobody may touch and has guard bytes before it; inputs lie in pages that
+ * cannot be written while the call runs. A broken promise aborts: answers, lengths, places, what output and work memory
+ * hold afterwards.
  *
  * Byte 0 of an input chooses the call, byte 1 its output's length, the rest is what the call reads.
  */
@@ -282,7 +283,10 @@ int LLVMFuzzerTestOneInput(const uint8_t *data, size_t len) {
         fuzz_pattern(rest, rest_len, data[1] < 200 ? CV_NET_MAX : data[1] - 200u);
         break;
     case 1:
-        fuzz_build(rest, rest_len, data[1] == 255 ? CV_WORK_MIN - 1 : data[1] == 254 ? 0 : CV_WORK_MIN,
+        fuzz_build(rest, rest_len,
+                   data[1] == 255   ? CV_WORK_MIN - 1
+                   : data[1] == 254 ? 0
+                                    : CV_WORK_MIN,
                    data[1] < 200 ? CV_TABLE_ROOM : 7u * (data[1] - 200u));
         break;
     case 2:
