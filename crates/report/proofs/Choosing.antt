@@ -3,7 +3,7 @@ use mathlib.Core.Path.{_≡_, refl, sym, ap, ap₂, _∙_, subst}
 use mathlib.Core.List.{List, [], _∷_, _++_}
 use Prim.Native.Nat.{ℕ, _+_, _-_, _≤_, _<_}
 use native.Mathlib.Omega.{arith}
-use lib.ListN.{length, length-take, take, drop, replicate}
+use lib.ListN.{length, length-take, take, drop, replicate, take-append-drop}
 use Rattle.ground.specs.Lists.{each}
 use Rattle.ground.proofs.Picks.{pick-lt, pick-not-lt, pick-eq, pick-ne}
 use Rattle.card.specs.Table.{Table}
@@ -23,11 +23,11 @@ pub wrote-as : {a b : List ℕ} {at r : ℕ} {t u : List ℕ} → t ≡ u → Wr
 wrote-as {a} {b} {at} {r} e w = subst (Wrote a b at r) e w
 
 -- what is written from the start on stands at the front
-pub wrote-front : {a b : List ℕ} {r : ℕ} {t : List ℕ} (s : List ℕ) → Wrote a b 0 r t → t ≡ printed s → Prints s b r
+pub wrote-front : {a b : List ℕ} {r : ℕ} {t : List ℕ} (s : List ℕ) → Wrote a b 0 r t → t ≡ printed s → Prints s a b r
 wrote-front {a} {b} {r} {t} s w e =
     let n = w .next in
     let l : r ≡ length (take r b) = omega (arith, ap length (w .before)) in
-    record { text = w .before ∙ e; inside = omega (arith, length-take r b); size = l }
+    record { text = w .before ∙ e; beyond = w .beyond; inside = omega (arith, length-take r b); size = l }
 
 module _ (t : Told) where
   pub told-refused : (t .code ≡ 0 → ⊥) → refusedLine (t .code) ≡ toldLine t
@@ -110,3 +110,14 @@ module _ (s : List ℕ) where
       ∙ ap (λ k. patternLines (take k s) (lines (drop (k + 1) s))) h
       ∙ sym (as-reported s)
       ∙ printed-report l
+
+-- the promise settles the count and every byte of the buffer
+pub prints-one : {s a b c : List ℕ} {r q : ℕ} → Prints s a b r → Prints s a c q → (r ≡ q) × (b ≡ c)
+prints-one {s} {a} {b} {c} {r} {q} x y =
+    let e : r ≡ q = x .size ∙ ap length (x .text) ∙ sym (ap length (y .text)) ∙ sym (y .size) in (
+      e,
+      sym (take-append-drop r b)
+          ∙ ap₂ _++_ (x .text) (x .beyond)
+          ∙ ap₂ _++_ (sym (y .text)) (ap (λ n. drop n a) e ∙ sym (y .beyond))
+          ∙ take-append-drop q c,
+    )

@@ -5,8 +5,8 @@ use Prim.Native.Nat.{ℕ, zero, suc, _+_, _-_, _/_, _%_, _≤_, _<_}
 use native.Mathlib.Omega.{arith}
 use native.Mathlib.Decide.{decLt}
 use native.Mathlib.Numerals.{add-one}
-use lib.ListN.{length, take, getD, set, length-set, length-append}
-use lib.Seq.{take-suc, take-suc-set, take-all}
+use lib.ListN.{length, take, drop, getD, set, length-set, length-append}
+use lib.Seq.{take-suc, take-suc-set, take-all, drop-set-lt, drop-drop}
 use borrow.Author.Tests.{lt-ltb, le-ltb}
 use lib.IntN.{ℤ}
 use Rattle.ground.specs.Pick.{pick}
@@ -16,10 +16,11 @@ use Rattle.report.specs.Lines.{spaced}
 use Rattle.report.specs.Text.{digits, Wrote}
 
 pub wrote-none : (l : List ℕ) (at : ℕ) → Wrote l l at at []
-wrote-none l at = record { size = refl; next = omega arith; before = sym (append-nil (take at l)) }
+wrote-none l at = record { size = refl; next = omega arith; before = sym (append-nil (take at l)); beyond = refl }
 
 pub wrote-byte : (l : List ℕ) (at b : ℕ) → at < length l → Wrote l (set l at b) at (at + 1) (b ∷ [])
-wrote-byte l at b h = record { size = length-set l at b; next = refl; before = rw add-one (take-suc-set l at b h) }
+wrote-byte l at b h =
+    record { size = length-set l at b; next = refl; before = rw add-one (take-suc-set l at b h); beyond = drop-set-lt (at + 1) l at b (omega arith) }
 
 pub wrote-then : {a b c : List ℕ} {at m r : ℕ} {t u : List ℕ} → Wrote a b at m t → Wrote b c m r u → Wrote a c at r (t ++ u)
 wrote-then {a} {b} {c} {at} {m} {r} {t} {u} x y =
@@ -27,6 +28,13 @@ wrote-then {a} {b} {c} {at} {m} {r} {t} {u} x y =
       size = y .size ∙ x .size;
       next = let n = x .next in let k = y .next in let l = length-append t u in omega arith;
       before = y .before ∙ ap (λ (s : List ℕ). s ++ u) (x .before) ∙ append-assoc (take at a) t u;
+      beyond =
+          y .beyond
+          ∙ ap (λ (n : ℕ). drop n b) (y .next)
+          ∙ sym (drop-drop (length u) m b)
+          ∙ ap (drop (length u)) (x .beyond)
+          ∙ drop-drop (length u) m a
+          ∙ ap (λ (n : ℕ). drop n a) (sym (y .next));
     }
 
 pub digits-small : (k n : ℕ) → n < 10 → digits (suc k) n ≡ (n + 48) ∷ []

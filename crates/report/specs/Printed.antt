@@ -2,7 +2,7 @@
 use mathlib.Core.Path.{_≡_}
 use mathlib.Core.List.{List, [], _∷_, _++_}
 use Prim.Native.Nat.{ℕ, _≤_}
-use lib.ListN.{length, take, replicate}
+use lib.ListN.{length, take, drop, replicate}
 use lib.Dec.{ltb, eqb}
 use Rattle.ground.specs.Pick.{pick}
 use Rattle.ground.specs.Lists.{each}
@@ -63,8 +63,9 @@ report (p ∷ records) = patternLines p records
 unfoldable pub printed : List ℕ → List ℕ
 printed s = pick (ltb 65536 (length s)) overLine (report (lines s))
 
--- the first r bytes of a buffer are all that is printed for an input
-pub record Prints (s out : List ℕ) (r : ℕ) : Type 0 where
-  pub text : take r out ≡ printed s
-  pub inside : r ≤ length out
-  pub size : r ≡ length (take r out)
+-- the first r bytes of a buffer are now all that is printed for an input; "Output beyond the result keeps its bytes"
+pub record Prints (s out out′ : List ℕ) (r : ℕ) : Type 0 where
+  pub text : take r out′ ≡ printed s
+  pub beyond : drop r out′ ≡ drop r out
+  pub inside : r ≤ length out′
+  pub size : r ≡ length (take r out′)

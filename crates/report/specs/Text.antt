@@ -2,7 +2,7 @@
 use mathlib.Core.Path.{_≡_}
 use mathlib.Core.List.{List, [], _∷_, _++_}
 use Prim.Native.Nat.{ℕ, zero, suc, _+_, _/_, _%_}
-use lib.ListN.{length, take}
+use lib.ListN.{length, take, drop}
 use lib.Dec.{ltb}
 use Rattle.ground.specs.Pick.{pick}
 use Rattle.ground.specs.declared.Place.{Place}
@@ -22,8 +22,9 @@ abbrev pub shown : Place → List ℕ
 shown (At n) = decimal n
 shown Absent = 45 ∷ 49 ∷ []
 
--- `text` was written over `a` at a place, which gives b, and r is the place after it; only what stands before r counts
+-- `text` was written over `a` at a place, which gives b, and r is the place after it; what stands from r on is as it was
 pub record Wrote (a b : List ℕ) (at r : ℕ) (text : List ℕ) : Type 0 where
   pub size : length b ≡ length a
   pub next : r ≡ at + length text
   pub before : take r b ≡ take at a ++ text
+  pub beyond : drop r b ≡ drop r a

@@ -269,7 +269,7 @@ fn put_made(out: &mut [u8], net: &[u8], made: Made, input: &[u8], from: usize) -
 
 // All that the program prints for an input.
 pub fn answer(input: &[u8], out: &mut [u8; 4718643]) -> usize
-    ensures { λ r. ⌜ Prints (now (input .entry)) (now (out .exit)) r ⌝ }
+    ensures { λ r. ⌜ Prints (now (input .entry)) (now (out .entry)) (now (out .exit)) r ⌝ }
 {
     if 65536 < input.len() {
         return put_text(out, 0, b"input over 65536\n");
