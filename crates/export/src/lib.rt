@@ -129,7 +129,13 @@ pub extern "C" fn cv_mount(table: &[u8], image: &mut [u32]) -> u8
 
 // A run over an image: on the image that mounting wrote of a taken table it is the run of that table.
 #[no_mangle]
-pub extern "C" fn cv_ride(table: &[u8], image: &[u32], line: &[u8], answer: &mut u8, places: &mut [i16; 8]) -> u8
+pub extern "C" fn cv_ride(
+    table: &[u8],
+    image: &[u32],
+    line: &[u8],
+    answer: &mut u8,
+    places: &mut [i16; 8],
+) -> u8
     ensures { λ r. ⌜ told r (now (answer .exit)) (now (places .exit)) ≡ ridden (now (table .entry)) (now (image .entry)) (now (line .entry)) ⌝ }
 {
     let r = ride::ride(table, image, line);
