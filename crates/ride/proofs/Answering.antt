@@ -1,14 +1,14 @@
 -- A ride's answer, from the count of situations, the image's room and the line's length. Assumes nothing.
-use Prim.Native.Nat.{ℕ, _+_, _*_, _<_, _≤_}
+use Prim.Native.Nat.{ℕ, _*_, _<_, _≤_}
 use native.Mathlib.Omega.{arith}
-use mathlib.Core.Path.{_≡_, refl, sym, ap, ap₂, _∙_}
+use mathlib.Core.Path.{_≡_, refl, sym, ap₂, _∙_}
 use mathlib.Core.Bool.{Bool, true, false}
 use mathlib.Core.List.{List}
 use lib.ListN.{length, getD}
 use lib.Dec.{ltb, leb, eqb}
 use borrow.Author.Tests.{eq-eqb, ne-eqb, lt-ltb, le-ltb, le-leb, lt-leb}
 use Rattle.ground.specs.Pick.{pick}
-use Rattle.card.specs.Run.{lineMax, Told, refused}
+use Rattle.card.specs.Run.{lineMax, refused}
 use Rattle.ride.specs.Ride.{fitting, ridesFrom, started, ridden}
 
 module _ (s image w : List ℕ) where

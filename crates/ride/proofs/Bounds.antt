@@ -1,11 +1,10 @@
 -- A formed table is written as fewer than 2^23 bytes, so a place in it fits 23 bits. Assumes nothing.
-use Prim.Native.Nat.{ℕ, zero, suc, _+_, _*_, _<_, _≤_}
+use Prim.Native.Nat.{ℕ, suc, _+_, _*_, _<_, _≤_}
 use native.Mathlib.Omega.{arith}
-use mathlib.Core.Path.{_≡_, refl, sym, ap, _∙_}
 use mathlib.Core.List.{List, [], _∷_, _++_}
 use lib.ListN.{length, length-append}
 use Rattle.ground.specs.Lists.{each}
-use Rattle.card.specs.Table.{Cmd, move, put, Row, Sit, Table, cmd-bytes, row-bytes, sit-bytes, bytesOf, Rising, Upward, FormedSit, FormedSits, Formed}
+use Rattle.card.specs.Table.{Cmd, move, put, Row, Sit, Table, cmd-bytes, row-bytes, sit-bytes, bytesOf, Rising, Upward, FormedSits, Formed}
 
 -- targets rise, so a list has at most as many commands as there are registers
 cmds-long : (R low : ℕ) (l : List Cmd) → low ≤ R → Rising R low l → length (each cmd-bytes l) + 3 * low ≤ 3 * R

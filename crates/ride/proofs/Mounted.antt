@@ -1,13 +1,13 @@
 -- The image that mounting writes of a taken table: each entry says its byte's row. Assumes nothing.
-use Prim.Native.Nat.{ℕ, zero, suc, _+_, _*_, _/_, _%_, _<_, _≤_}
+use Prim.Native.Nat.{ℕ, zero, suc, _+_, _<_, _≤_}
 use native.Mathlib.Omega.{arith}
-use mathlib.Core.Path.{_≡_, refl, sym, ap, ap₂, _∙_, subst}
+use mathlib.Core.Path.{_≡_, refl, sym, ap, _∙_, subst}
 use mathlib.Core.Bool.{Bool, true, false}
-use mathlib.Core.Logic.{_⊎_, inl, inr, ⊎-elim}
+use mathlib.Core.Logic.{_⊎_, inl, inr}
 use mathlib.Core.List.{List, [], _∷_}
-use lib.ListN.{length, getD}
-use lib.Dec.{leb, eqb}
-use borrow.Author.Tests.{eq-eqb, ne-eqb, le-leb, lt-leb, leb-true, leb-false}
+use lib.ListN.{length}
+use lib.Dec.{leb}
+use borrow.Author.Tests.{lt-leb, leb-true, leb-false}
 use Rattle.ground.specs.Pick.{pick}
 use Rattle.card.specs.Table.{Cmd, move, put, Row, Sets}
 use Rattle.card.specs.Run.{rowFor, noRow}

@@ -1,18 +1,17 @@
 -- The commands of an entry carried out: SETs alone, a whole list, and what an entry asks for. Assumes nothing.
-use Prim.Native.Nat.{ℕ, zero, suc, _+_, _%_, _<_, _≤_}
+use Prim.Native.Nat.{ℕ, _+_, _%_, _<_, _≤_}
 use native.Mathlib.Omega.{arith}
-use mathlib.Core.Path.{_≡_, refl, sym, ap, ap₂, _∙_, subst}
+use mathlib.Core.Path.{_≡_, refl, sym, ap, ap₂, _∙_}
 use mathlib.Core.Bool.{Bool, true, false}
 use mathlib.Core.List.{List, [], _∷_}
 use lib.ListN.{length, set}
-use lib.IntN.{ℤ, pos}
+use lib.IntN.{pos}
 use lib.Dec.{leb, eqb}
 use borrow.Author.Tests.{eq-eqb, ne-eqb, le-leb, lt-leb}
 use Rattle.ground.specs.Pick.{pick}
-use Rattle.card.specs.Table.{Cmd, move, put}
+use Rattle.card.specs.Table.{Cmd, put}
 use Rattle.card.specs.Run.{Bank}
 use Rattle.card.specs.Decode.{cmdAt, cmdsAt}
-use Rattle.card.specs.declared.Order.{Order}
 use Rattle.card.specs.declared.Order.the-variants.{Move, Put, Stop}
 use Rattle.card.proofs.Laws.{cmds-step}
 use Rattle.run.specs.Carry.{carry}

@@ -1,20 +1,20 @@
 -- A line's way over an image, byte by byte. Assumes nothing.
-use Prim.Native.Nat.{ℕ, zero, suc, _+_, _*_, _/_, _%_, _<_, _≤_}
+use Prim.Native.Nat.{ℕ, _+_, _*_, _<_, _≤_}
 use native.Mathlib.Omega.{arith}
 use native.Mathlib.Numerals.{add-one}
-use mathlib.Core.Path.{_≡_, refl, sym, ap, ap₂, _∙_, subst}
+use mathlib.Core.Path.{_≡_, refl, sym, ap, ap₂, _∙_}
 use mathlib.Core.Bool.{Bool, true, false}
-use mathlib.Core.List.{List, [], _∷_}
+use mathlib.Core.List.{List, []}
 use lib.ListN.{length, getD, drop, drop-of-length-le}
 use lib.Seq.{drop-cons}
-use lib.Dec.{leb, eqb}
-use borrow.Author.Tests.{eq-eqb, le-leb, lt-leb}
+use lib.Dec.{leb}
+use borrow.Author.Tests.{le-leb, lt-leb}
 use Rattle.ground.specs.Pick.{pick}
 use Rattle.card.specs.Table.{Cmd}
-use Rattle.card.specs.Run.{Bank, lineMax, empties, Told, refused}
+use Rattle.card.specs.Run.{Bank, empties, Told, refused}
 use Rattle.card.specs.Decode.{cmdsAt}
 use Rattle.run.specs.Carry.{carry}
-use Rattle.ride.specs.Image.{nextOf, kindOf, listOf}
+use Rattle.ride.specs.Image.{nextOf, kindOf}
 use Rattle.ride.specs.Ride.{onlySets, orders, listless, astray, endAt, taking, ridesFrom, started}
 use Rattle.ride.specs.Need.{Obeyed, Rideable}
 use Rattle.ride.proofs.Obeying.{none-listed, none-ordered}

@@ -1,14 +1,13 @@
 -- A ride over the image that mounting writes of a taken table is the run of that table. Assumes nothing.
-use Prim.Native.Nat.{ℕ, zero, suc, _+_, _*_, _<_, _≤_}
+use Prim.Native.Nat.{ℕ, suc, _+_, _*_, _<_, _≤_}
 use native.Mathlib.Omega.{arith}
-use native.Mathlib.Nat.{add-assoc}
 use mathlib.Core.Path.{_≡_, refl, sym, ap, ap₂, _∙_, subst}
-use mathlib.Core.Bool.{Bool, true, false}
+use mathlib.Core.Bool.{Bool, false}
 use mathlib.Core.Logic.{_⊎_, inl, inr, ⊎-elim}
 use mathlib.Core.List.{List, [], _∷_, map}
 use lib.ListN.{length, getD, take, drop}
 use lib.IntN.{ℤ}
-use lib.Dec.{ltb, eqb}
+use lib.Dec.{eqb}
 use borrow.Author.Tests.{eq-eqb, ne-eqb, lt-ltb, le-ltb}
 use Rattle.ground.specs.Pick.{pick}
 use Rattle.card.specs.Table.{Cmd, Row, Sit, Table, FormedSit, Formed}
@@ -26,7 +25,7 @@ use Rattle.run.proofs.Carrying.{carried}
 use Rattle.run.proofs.Riding.{run-lost}
 use Rattle.run.proofs.One.{runs-one}
 use Rattle.ride.specs.Image.{nextOf, spotAt, entryAt, Imaged, Mounts, unfit, small, written}
-use Rattle.ride.specs.Ride.{onlySets, orders, astray, fieldAt, endAt, taking, ridesFrom, started, ridden}
+use Rattle.ride.specs.Ride.{orders, fieldAt, endAt, taking, ridesFrom, started, ridden}
 use Rattle.ride.proofs.Riding.{counted}
 use Rattle.ride.proofs.Telling.{end-of}
 use Rattle.ride.proofs.Answering.{ridden-long, ridden-on}

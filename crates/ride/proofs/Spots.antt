@@ -1,15 +1,14 @@
 -- The place of a byte's row among the rows at a place, and the row that stands there. Assumes nothing.
 use Prim.Native.Nat.{ℕ, zero, suc, _+_, _<_, _≤_}
 use native.Mathlib.Omega.{arith}
-use mathlib.Core.Path.{_≡_, refl, sym, ap, _∙_, subst}
+use mathlib.Core.Path.{_≡_, refl, sym, ap, _∙_}
 use mathlib.Core.Bool.{Bool, true, false}
-use mathlib.Core.List.{List, [], _∷_}
-use lib.ListN.{length, getD}
+use mathlib.Core.List.{List}
+use lib.ListN.{length}
 use lib.Dec.{leb}
 use borrow.Author.Tests.{le-leb, lt-leb, leb-true, leb-false}
 use Rattle.ground.specs.Pick.{pick}
-use Rattle.card.specs.Run.{rowFor}
-use Rattle.card.specs.Decode.{cmdsAt, afterN, afterAt, rowAt, rowsAt}
+use Rattle.card.specs.Decode.{afterAt, rowAt}
 use Rattle.card.specs.declared.RowItem.{RowItem}
 use Rattle.card.specs.declared.RowItem.the-variants.{Leads, Ends}
 use Rattle.card.proofs.Rows.{after-ge, no-line}

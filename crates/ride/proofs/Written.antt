@@ -1,17 +1,16 @@
 -- An image written entry by entry, situation by situation; it is settled by what it says. Assumes nothing.
-use Prim.Native.Nat.{ℕ, zero, suc, _+_, _-_, _*_, _/_, _%_, _<_, _≤_}
+use Prim.Native.Nat.{ℕ, _+_, _-_, _*_, _/_, _%_, _<_, _≤_}
 use native.Mathlib.Omega.{arith}
 use native.Mathlib.Decide.{ℕ-discrete}
 use mathlib.Core.Path.{_≡_, refl, sym, ap, _∙_, subst}
 use mathlib.Core.Logic.{_⊎_, inl, inr, ⊎-elim}
-use mathlib.Core.List.{List, [], _∷_}
+use mathlib.Core.List.{List}
 use lib.ListN.{length, getD, set, length-set}
 use lib.Seq.{getD-set-same, getD-set-other, ext-getD}
 use Rattle.card.specs.Decode.{placesOf}
 use Rattle.card.proofs.Common.{lt-or-le}
-use Rattle.loader.specs.Flow.{Ready}
 use Rattle.ride.specs.Image.{spotAt, entryAt, Imaged}
-use Rattle.ride.specs.Need.{Room, RowImaged, Mountable}
+use Rattle.ride.specs.Need.{RowImaged, Mountable}
 use Rattle.ride.proofs.Spots.{spot-on}
 
 -- ---- one situation

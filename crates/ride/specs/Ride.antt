@@ -1,9 +1,8 @@
 -- A run over an image, for any bytes as the table and any numbers as the image: an entry that points outside is answered as TABLE_FORM.
 -- A law says that with the image that mounting writes of a taken table it is the run of that table. Assumes nothing: these are definitions.
-use mathlib.Core.Path.{_≡_}
 use mathlib.Core.Bool.{Bool, true, false}
 use mathlib.Core.List.{List, [], _∷_, map}
-use Prim.Native.Nat.{ℕ, zero, suc, _+_, _*_, _%_, _<_, _≤_}
+use Prim.Native.Nat.{ℕ, suc, _+_, _*_, _%_}
 use lib.ListN.{length, getD, take, drop}
 use lib.IntN.{ℤ}
 use lib.Dec.{ltb, leb, eqb}

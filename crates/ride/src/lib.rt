@@ -4,7 +4,7 @@ mod imaging;
 ghost use mathlib.Core.Path.{_≡_};
 ghost use mathlib.Core.List.{map};
 ghost use Prim.Native.Nat.{_≤_, _<_, _+_, _*_};
-ghost use lib.ListN.{length, getD, take, drop};
+ghost use lib.ListN.{length, take, drop};
 ghost use Rattle.card.specs.Decode.{cmdsAt};
 ghost use Rattle.card.specs.Run.{lineMax, refused};
 ghost use Rattle.run.specs.Carry.{carry};

@@ -1,6 +1,4 @@
 -- `ride::mount` meets its contract. Assumes nothing.
-use mathlib.Core.Path.{_≡_, refl, sym, ap, _∙_}
-use native.Mathlib.Omega.{arith}
 use Rattle.ride.proofs.Mounting.{mounts-unfit, mounts-small, mountable, mounts-written}
 use borrow.Author.Needs.{needs}
 use Rattle.ride.proofs.mount.Statement.{statement}

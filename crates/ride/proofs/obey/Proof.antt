@@ -1,6 +1,4 @@
 -- `ride::obey` meets its contract: none, one SET, past the end, SETs only, any. Assumes nothing.
-use mathlib.Core.Path.{_≡_, refl, sym, ap, _∙_}
-use native.Mathlib.Omega.{arith}
 use lib.IntN.{pos}
 use mir.Syntax.{w16}
 use mir.ValLaws.{toZ-ofZ}

@@ -1,5 +1,5 @@
 -- `ride::ride` meets its contract. Assumes nothing.
-use mathlib.Core.Path.{_≡_, refl, sym, ap, _∙_}
+use mathlib.Core.Path.{_∙_}
 use native.Mathlib.Omega.{arith}
 use Rattle.ride.proofs.Answering.{ridden-none, ridden-small, ridden-long, ridden-on}
 use borrow.Author.Needs.{needs}

@@ -1,10 +1,10 @@
 -- `ride::ride_line` meets its contract: the invariant is `Way`. Assumes nothing.
-use Prim.Native.Nat.{ℕ, _+_, _*_, _-_, _<_, _≤_}
-use mathlib.Core.Path.{_≡_, refl, sym, ap, _∙_}
+use Prim.Native.Nat.{_+_, _*_, _-_}
+use mathlib.Core.Path.{_∙_}
 use native.Mathlib.Omega.{arith}
 use borrow.Author.Needs.{needs}
 use borrow.Author.Tests.{not-true, not-false}
-use lib.ListN.{length, getD}
+use lib.ListN.{length}
 use Rattle.ride.proofs.Riding.{Way, way-begins, way-ends, way-outside, way-past, way-next, way-stay, went-on, went-round}
 use mathlib.Core.Logic.{⊎-elim}
 use Rattle.ride.proofs.ride_line.Statement.{statement}

@@ -1,15 +1,15 @@
 -- `ride::set_list` meets its contract: what is left to carry out, on the bank so far, is the whole. Assumes nothing.
-use Prim.Native.Nat.{ℕ, _-_}
-use mathlib.Core.Path.{_≡_, refl, sym, ap, _∙_}
+use Prim.Native.Nat.{_-_}
+use mathlib.Core.Path.{_≡_, refl, sym, _∙_}
 use native.Mathlib.Omega.{arith}
 use borrow.Author.Needs.{needs}
-use lib.ListN.{length, getD}
+use lib.ListN.{length}
 use lib.IntN.{pos}
 use mir.Syntax.{w16}
 use mir.ValLaws.{toZ-ofZ}
 use Rattle.ground.proofs.Places.{place-fits}
 use Rattle.card.specs.Decode.{cmdsAt}
-use Rattle.card.proofs.Laws.{move-facts, put-facts}
+use Rattle.card.proofs.Laws.{put-facts}
 use Rattle.run.specs.Carry.{carry}
 use Rattle.ride.specs.Ride.{onlySets}
 use Rattle.ride.proofs.Obeying.{sets-put, sets-move, sets-stop}

@@ -1,6 +1,5 @@
 -- `ride::tell` meets its contract. Assumes nothing.
-use mathlib.Core.Path.{_≡_, refl, sym, ap, _∙_}
-use native.Mathlib.Omega.{arith}
+use mathlib.Core.Path.{_∙_}
 use Rattle.ride.proofs.Telling.{tell-short, tell-none, tell-some}
 use borrow.Author.Needs.{needs}
 use Rattle.ride.proofs.tell.Statement.{statement}

@@ -1,5 +1,5 @@
 -- `ride::imaging::alone` meets its contract. Assumes nothing.
-use mathlib.Core.Path.{_≡_, refl, sym, ap, _∙_}
+use mathlib.Core.Path.{sym, _∙_}
 use Rattle.ride.proofs.Entries.{alone-stop, alone-move, alone-put}
 use borrow.Author.Needs.{needs}
 use Rattle.ride.proofs.imaging.alone.Statement.{statement}

@@ -1,5 +1,5 @@
 -- `ride::imaging::entry_at` meets its contract. Assumes nothing.
-use mathlib.Core.Path.{_≡_, refl, sym, ap, _∙_}
+use mathlib.Core.Path.{sym, _∙_}
 use native.Mathlib.Omega.{arith}
 use Rattle.card.proofs.Rows.{row-whole}
 use Rattle.card.specs.Decode.{cmdsAt}

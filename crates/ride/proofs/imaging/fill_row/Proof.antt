@@ -1,6 +1,5 @@
 -- `ride::imaging::fill_row` meets its contract: the invariant is `Filling`. Assumes nothing.
-use Prim.Native.Nat.{ℕ, _-_}
-use mathlib.Core.Path.{_≡_, refl, sym, ap, _∙_}
+use Prim.Native.Nat.{_-_}
 use native.Mathlib.Omega.{arith}
 use borrow.Author.Needs.{needs}
 use Rattle.ride.proofs.Written.{Filling, filling-none, filling-next, filling-all}

@@ -1,5 +1,5 @@
 -- `ride::imaging::list_sort` meets its contract. Assumes nothing.
-use mathlib.Core.Path.{_≡_, refl, sym, ap, _∙_}
+use mathlib.Core.Path.{sym, _∙_}
 use native.Mathlib.Omega.{arith}
 use Rattle.card.proofs.Laws.{put-facts}
 use Rattle.ride.proofs.Entries.{sort-stop, sort-move, sort-one, sort-sets, sort-mixed}

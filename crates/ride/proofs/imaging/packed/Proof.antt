@@ -1,5 +1,5 @@
 -- `ride::imaging::packed` meets its contract. Assumes nothing.
-use mathlib.Core.Path.{_≡_, refl}
+use mathlib.Core.Path.{refl}
 use Rattle.ride.specs.Image.{entry}
 use borrow.Author.Needs.{needs}
 use Rattle.ride.proofs.imaging.packed.Statement.{statement}

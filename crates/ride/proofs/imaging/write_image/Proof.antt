@@ -1,9 +1,7 @@
 -- `ride::imaging::write_image` meets its contract: the invariant is `Written`. Assumes nothing.
-use Prim.Native.Nat.{ℕ, _+_, _*_, _-_}
-use mathlib.Core.Path.{_≡_, refl, sym, ap, _∙_}
+use Prim.Native.Nat.{_-_}
 use native.Mathlib.Omega.{arith}
 use borrow.Author.Needs.{needs}
-use lib.ListN.{length, getD}
 use Rattle.loader.proofs.Situated.{count-most, room-here}
 use Rattle.ride.proofs.Written.{Written, written-none, written-on, written-all}
 use Rattle.ride.proofs.imaging.write_image.Statement.{statement}
