@@ -1,7 +1,7 @@
 -- What the pattern maker and the builder hand on: lengths that lie in their buffers, and a table that the loader takes. Assumes nothing.
 use mathlib.Core.Path.{_≡_, refl, sym, ap, _∙_, subst}
 use mathlib.Core.Bool.{Bool, true, false}
-use mathlib.Core.List.{List, [], _∷_, _++_}
+use mathlib.Core.List.{List, [], _∷_}
 use Prim.Native.Nat.{ℕ, zero, suc, _+_, _-_, _≤_, _<_}
 use native.Mathlib.Omega.{arith}
 use lib.ListN.{length, take, drop, getD}
@@ -10,10 +10,9 @@ use lib.Dec.{ltb, leb}
 use borrow.Author.Tests.{ltb-false}
 use Rattle.ground.specs.Pick.{pick}
 use Rattle.net.specs.Rec.{Net}
-use Rattle.net.specs.File.{Every, Bytes, Legal}
+use Rattle.net.specs.File.{Bytes, Legal}
 use Rattle.net.specs.Items.{NetRead, net, refused, netOf, NetFault, net-kind, net-short, net-field, net-extra, number}
 use Rattle.net.proofs.Inverse.{written}
-use Rattle.paths.specs.Limits.{Over-registers, Over-situations}
 use Rattle.pattern.specs.Pat.{size}
 use Rattle.pattern.specs.Reader.{Res, ok, form, deep, alts, read}
 use Rattle.pattern.specs.Maker.{Given, given, file, made, judged, maker}
@@ -21,7 +20,7 @@ use Rattle.pattern.specs.declared.Made.{Made}
 use Rattle.card.specs.Table.{bytesOf}
 use Rattle.card.specs.Judged.{Judged}
 use Rattle.build.specs.Card.{tableOf}
-use Rattle.build.specs.Build.{Done, over-registers, over-situations, refuses, gives, makes, of-net, buildOf, Builds}
+use Rattle.build.specs.Build.{Done, over-registers, over-situations, makes, of-net, buildOf, Builds}
 use Rattle.build.specs.declared.Built.{Built}
 use Rattle.build.proofs.Verdict.{registers-true, situations-true}
 use Rattle.built.specs.Fits.{Fits}

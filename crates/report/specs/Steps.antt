@@ -1,14 +1,12 @@
 -- What the functions between the input and the printed lines are told and leave. Assumes nothing: these are definitions.
 use mathlib.Core.Path.{_≡_}
 use mathlib.Core.List.{List, [], _∷_, _++_}
-use Prim.Native.Nat.{ℕ, zero, suc, _+_, _*_, _≤_, _<_}
-use lib.ListN.{length, drop, take, getD}
+use Prim.Native.Nat.{ℕ, suc, _+_, _*_, _≤_}
+use lib.ListN.{length, take}
 use lib.Dec.{eqb}
 use Rattle.ground.specs.Pick.{pick}
-use Rattle.loader.specs.Flow.{Ready}
 use Rattle.loader.specs.Judges.{Judges}
 use Rattle.card.specs.Judged.{Judged}
-use Rattle.pattern.specs.declared.Made.{Made}
 use Rattle.build.specs.declared.Built.{Built}
 use Rattle.report.specs.Text.{Wrote}
 

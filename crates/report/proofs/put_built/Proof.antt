@@ -1,9 +1,8 @@
 -- `report::put_built` meets its contract: a refusal alone, or the table line and the records, by a table that the loader takes. Assumes nothing.
-use Prim.Native.Nat.{_-_}
 use native.Mathlib.Omega.{arith}
-use mathlib.Core.Path.{_≡_, sym, ap, _∙_, subst}
-use mathlib.Core.List.{List, _++_}
-use lib.ListN.{drop, take}
+use mathlib.Core.Path.{sym, ap, _∙_, subst}
+use mathlib.Core.List.{_++_}
+use lib.ListN.{drop}
 use Rattle.ground.specs.Lists.{each}
 use Rattle.card.specs.Decode.{tableAt}
 use Rattle.card.specs.Judged.{Judged}

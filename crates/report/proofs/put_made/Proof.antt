@@ -1,6 +1,6 @@
 -- `report::put_made` meets its contract: a refusal, or what the builder gives. Assumes nothing.
 use Prim.Native.Nat.{_-_}
-use mathlib.Core.Path.{_≡_, refl}
+use mathlib.Core.Path.{refl}
 use lib.ListN.{length, drop}
 use Rattle.pattern.specs.Maker.{given}
 use Rattle.report.specs.Printed.{lines}

@@ -1,7 +1,7 @@
 -- `report::put_records` meets its contract: what is left of the records is still to be written. Assumes nothing.
 use Prim.Native.Nat.{_+_, _*_, _-_, _≤_}
 use native.Mathlib.Omega.{arith}
-use mathlib.Core.Path.{_≡_, subst}
+use mathlib.Core.Path.{subst}
 use borrow.Author.Needs.{needs}
 use lib.ListN.{length, drop}
 use Rattle.ground.specs.Lists.{each}
