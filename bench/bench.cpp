@@ -44,8 +44,8 @@ struct Bound {
 };
 
 struct Case {
-    string name, ours, peer;   // the pattern in our notation, and with groups for the peers
-    vector<Bound> tags;        // the group's bound that each tag stands for
+    string name, ours, peer; // the pattern in our notation, and with groups for the peers
+    vector<Bound> tags;      // the group's bound that each tag stands for
     vector<string> lines;
     int (*re2c)(const unsigned char *, int32_t *);
 };
@@ -82,8 +82,8 @@ static vector<Case> cases() {
                {},
                re2c_feed};
         for (int i = 0; i < 64; i++)
-            c.lines.push_back("TRK-" + n.digits(4) + ";NET;  " + n.digits(5) + "." + n.digits(1) + " kg;06:0" + n.digits(1) +
-                              ":1" + n.digits(1) + ";A" + n.digits(1));
+            c.lines.push_back("TRK-" + n.digits(4) + ";NET;  " + n.digits(5) + "." + n.digits(1) + " kg;06:0" +
+                              n.digits(1) + ":1" + n.digits(1) + ";A" + n.digits(1));
         all.push_back(c);
     }
     {
@@ -96,8 +96,12 @@ static vector<Case> cases() {
         all.push_back(c);
     }
     {
-        Case c{"shift, 32767 bytes", "(@0[0-9]+@1 @2(kg|t)@3;)*", "(?:([0-9]+) (kg|t);)*",
-               {{1, false}, {1, true}, {2, false}, {2, true}}, {}, re2c_shift};
+        Case c{"shift, 32767 bytes",
+               "(@0[0-9]+@1 @2(kg|t)@3;)*",
+               "(?:([0-9]+) (kg|t);)*",
+               {{1, false}, {1, true}, {2, false}, {2, true}},
+               {},
+               re2c_shift};
         string line;
         for (int i = 0; i < 4681; i++) line += n.digits(4) + " t;";
         c.lines.push_back(line);
@@ -160,8 +164,8 @@ struct Card : Engine { // what ours and the plain C versions share
     bool build(const Case &c) override {
         size_t place;
         return cv_pattern(bytes(c.ours), c.ours.size(), net.data(), net.size(), &place, &net_len) == CV_OK &&
-               cv_build(net.data(), net_len, work.data(), work.size(), table.data(), table.size(), &table_len, &situations,
-                        &registers) == CV_OK;
+               cv_build(net.data(), net_len, work.data(), work.size(), table.data(), table.size(), &table_len,
+                        &situations, &registers) == CV_OK;
     }
     int told(uint8_t code, const int16_t *from, int32_t *to) {
         for (int t = 0; t < 8; t++) to[t] = from[t];
@@ -202,8 +206,9 @@ struct PlainRide : Image {
     int match(const string &line, int32_t places[8]) override {
         uint8_t answer;
         int16_t p[8];
-        return told(plain_ride(table.data(), table_len, image.data(), image.size(), bytes(line), line.size(), &answer, p),
-                    p, places);
+        return told(
+            plain_ride(table.data(), table_len, image.data(), image.size(), bytes(line), line.size(), &answer, p), p,
+            places);
     }
     bool builds() override { return false; }
 };
@@ -216,8 +221,8 @@ struct Ride : Image {
     int match(const string &line, int32_t places[8]) override {
         uint8_t answer;
         int16_t p[8];
-        return told(cv_ride(table.data(), table_len, image.data(), image.size(), bytes(line), line.size(), &answer, p), p,
-                    places);
+        return told(cv_ride(table.data(), table_len, image.data(), image.size(), bytes(line), line.size(), &answer, p),
+                    p, places);
     }
     size_t extra() override { return table_len + situations * CV_IMAGE_WORDS * 4; }
 };
@@ -273,8 +278,8 @@ struct Pcre2 : Engine {
         c = &with;
         int error;
         PCRE2_SIZE at;
-        code = pcre2_compile(bytes(with.peer), with.peer.size(), PCRE2_ANCHORED | PCRE2_ENDANCHORED | PCRE2_DOTALL, &error,
-                             &at, nullptr);
+        code = pcre2_compile(bytes(with.peer), with.peer.size(), PCRE2_ANCHORED | PCRE2_ENDANCHORED | PCRE2_DOTALL,
+                             &error, &at, nullptr);
         if (!code || (jit && pcre2_jit_compile(code, PCRE2_JIT_COMPLETE) != 0)) return false;
         data = pcre2_match_data_create_from_pattern(code, nullptr);
         return true;
@@ -293,9 +298,8 @@ struct Pcre2 : Engine {
             return n == PCRE2_ERROR_NOMATCH ? NO : GAVE_UP;
         }
         PCRE2_SIZE *v = pcre2_get_ovector_pointer(data);
-        places_of(*c, places, [&](int g, bool end) {
-            return g < n && v[2 * g] != PCRE2_UNSET ? (int)v[2 * g + end] : -1;
-        });
+        places_of(*c, places,
+                  [&](int g, bool end) { return g < n && v[2 * g] != PCRE2_UNSET ? (int)v[2 * g + end] : -1; });
         return YES;
     }
     size_t extra() override {
@@ -354,9 +358,8 @@ struct Onig : Engine {
             places_of(*c, places, [](int, bool) { return -1; });
             return n == ONIG_MISMATCH ? NO : GAVE_UP;
         }
-        places_of(*c, places, [&](int g, bool end) {
-            return g < region->num_regs ? (end ? region->end[g] : region->beg[g]) : -1;
-        });
+        places_of(*c, places,
+                  [&](int g, bool end) { return g < region->num_regs ? (end ? region->end[g] : region->beg[g]) : -1; });
         return YES;
     }
 };
@@ -555,12 +558,18 @@ static void print(const Sheet &s) {
     printf("\n%s\n  %-14s %9s %9s %12s %10s\n", s.name.c_str(), "engine", "ns/byte", "to ours", "build us", "bytes");
     for (const Row &r : s.rows) {
         printf("  %-14s ", r.engine.c_str());
-        if (r.why.empty()) printf("%9.2f %8.2fx", r.ns, r.ns / ours);
-        else printf("%19s", r.why.c_str());
-        if (r.build_ns > 0) printf(" %12.1f", r.build_ns / 1000);
-        else printf(" %12s", "-");
-        if (r.size > 0) printf(" %10zu\n", r.size);
-        else printf(" %10s\n", "-");
+        if (r.why.empty())
+            printf("%9.2f %8.2fx", r.ns, r.ns / ours);
+        else
+            printf("%19s", r.why.c_str());
+        if (r.build_ns > 0)
+            printf(" %12.1f", r.build_ns / 1000);
+        else
+            printf(" %12s", "-");
+        if (r.size > 0)
+            printf(" %10zu\n", r.size);
+        else
+            printf(" %10s\n", "-");
     }
 }
 
@@ -568,8 +577,8 @@ static void print(const Sheet &s) {
 
 static void print_pairs(const vector<Case> &all, int rounds) {
     printf("\nours and plain C, microseconds a call (a line of the case), least of the rounds\n");
-    printf("  %-20s %8s %8s %6s  %8s %8s %6s  %9s %9s %6s\n", "case", "load", "plain", "ratio", "run", "plain", "ratio", "build",
-           "plain", "ratio");
+    printf("  %-20s %8s %8s %6s  %8s %8s %6s  %9s %9s %6s\n", "case", "load", "plain", "ratio", "run", "plain", "ratio",
+           "build", "plain", "ratio");
     for (const Case &c : all) {
         Run r;
         if (!r.build(c)) exit(1);
@@ -589,8 +598,8 @@ static void print_pairs(const vector<Case> &all, int rounds) {
         jobs[2].once = [&] { sink = cv_run(r.table.data(), r.table_len, bytes(line), line.size(), &answer, p); };
         jobs[3].once = [&] { sink = plain_run(r.table.data(), r.table_len, bytes(line), line.size(), &answer, p); };
         jobs[4].once = [&] {
-            sink = cv_build(r.net.data(), r.net_len, r.work.data(), r.work.size(), out.data(), out.size(), &len, &situations,
-                            &registers);
+            sink = cv_build(r.net.data(), r.net_len, r.work.data(), r.work.size(), out.data(), out.size(), &len,
+                            &situations, &registers);
         };
         jobs[5].once = [&] {
             sink = plain_build(r.net.data(), r.net_len, out.data(), out.size(), &len, &situations, &registers);
@@ -622,25 +631,33 @@ static void draw(const vector<Sheet> &sheets, const string &path, const string &
     double most = 1;
     for (const Sheet &s : sheets)
         for (const Row &r : s.rows) most = std::max(most, r.ns);
-    const double low = 0.5, scale = (width - left - 70) / std::log(most / low); // a bar of no length is half a nanosecond
-    fprintf(f, "<svg xmlns=\"http://www.w3.org/2000/svg\" width=\"%d\" height=\"%d\" font-family=\"sans-serif\" font-size=\"10\">\n", width, height);
+    const double low = 0.5,
+                 scale = (width - left - 70) / std::log(most / low); // a bar of no length is half a nanosecond
+    fprintf(f,
+            "<svg xmlns=\"http://www.w3.org/2000/svg\" width=\"%d\" height=\"%d\" font-family=\"sans-serif\" "
+            "font-size=\"10\">\n",
+            width, height);
     fprintf(f, "<rect width=\"100%%\" height=\"100%%\" fill=\"white\"/>\n");
-    fprintf(f, "<text x=\"8\" y=\"16\" font-size=\"13\">Nanoseconds per byte, logarithmic from 0.5; least of many rounds</text>\n");
+    fprintf(f, "<text x=\"8\" y=\"16\" font-size=\"13\">Nanoseconds per byte, logarithmic from 0.5; least of many "
+               "rounds</text>\n");
     fprintf(f, "<text x=\"8\" y=\"31\">%s</text>\n", escaped(date + (machine.empty() ? "" : ", " + machine)).c_str());
     int y = 42;
     for (const Sheet &s : sheets) {
         y += gap - 8;
-        fprintf(f, "<text x=\"8\" y=\"%d\" font-size=\"11\" font-weight=\"bold\">%s</text>\n", y - 4, escaped(s.name).c_str());
+        fprintf(f, "<text x=\"8\" y=\"%d\" font-size=\"11\" font-weight=\"bold\">%s</text>\n", y - 4,
+                escaped(s.name).c_str());
         for (const Row &r : s.rows) {
             bool ours = r.engine.compare(0, 3, "cv_") == 0;
-            fprintf(f, "<text x=\"%d\" y=\"%d\" text-anchor=\"end\">%s</text>\n", left - 6, y + bar - 4, escaped(r.engine).c_str());
+            fprintf(f, "<text x=\"%d\" y=\"%d\" text-anchor=\"end\">%s</text>\n", left - 6, y + bar - 4,
+                    escaped(r.engine).c_str());
             if (r.why.empty()) {
                 double len = std::max(1.0, std::log(r.ns / low) * scale);
-                fprintf(f, "<rect x=\"%d\" y=\"%d\" width=\"%.1f\" height=\"%d\" fill=\"%s\"/>\n", left, y + 1, len, bar - 3,
-                        ours ? "#c1440e" : "#7d8ca3");
+                fprintf(f, "<rect x=\"%d\" y=\"%d\" width=\"%.1f\" height=\"%d\" fill=\"%s\"/>\n", left, y + 1, len,
+                        bar - 3, ours ? "#c1440e" : "#7d8ca3");
                 fprintf(f, "<text x=\"%.1f\" y=\"%d\">%.2f</text>\n", left + len + 4, y + bar - 4, r.ns);
             } else {
-                fprintf(f, "<text x=\"%d\" y=\"%d\" fill=\"#888\">%s</text>\n", left, y + bar - 4, escaped(r.why).c_str());
+                fprintf(f, "<text x=\"%d\" y=\"%d\" fill=\"#888\">%s</text>\n", left, y + bar - 4,
+                        escaped(r.why).c_str());
             }
             y += bar;
         }
@@ -655,10 +672,14 @@ int main(int argc, char **argv) {
     string svg, machine, date;
     for (int i = 1; i + 1 < argc; i += 2) {
         string option = argv[i];
-        if (option == "--rounds") rounds = std::max(1, atoi(argv[i + 1]));
-        else if (option == "--svg") svg = argv[i + 1];
-        else if (option == "--class") machine = argv[i + 1];
-        else if (option == "--date") date = argv[i + 1];
+        if (option == "--rounds")
+            rounds = std::max(1, atoi(argv[i + 1]));
+        else if (option == "--svg")
+            svg = argv[i + 1];
+        else if (option == "--class")
+            machine = argv[i + 1];
+        else if (option == "--date")
+            date = argv[i + 1];
         else {
             fprintf(stderr, "usage: bench [--rounds N] [--svg FILE] [--class TEXT] [--date TEXT]\n");
             return 2;
@@ -666,8 +687,10 @@ int main(int argc, char **argv) {
     }
     printf("engines:");
     for (auto &e : engines()) printf(" %s%s;", e->name.c_str(), e->note.empty() ? "" : (" (" + e->note + ")").c_str());
-    printf("\n%d rounds; ratios are to the first engine; bytes: ours the table (and its image), a peer what it holds after\n"
-           "building and matching, its machine code included\n", rounds);
+    printf("\n%d rounds; ratios are to the first engine; bytes: ours the table (and its image), a peer what it holds "
+           "after\n"
+           "building and matching, its machine code included\n",
+           rounds);
     vector<Case> all = cases();
     vector<Sheet> sheets;
     for (const Case &c : all) {

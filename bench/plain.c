@@ -4,8 +4,24 @@
 #include <stdlib.h>
 #include <string.h>
 
-enum { OK, LONG, FORM, DEEP, BIG, KIND, SHORT, FIELD, EXTRA, REGISTERS = 10, SITUATIONS, OUT_SMALL, TABLE_FORM, EMPTY_READ, LINE_LONG,
-       NO_MATCH };
+enum {
+    OK,
+    LONG,
+    FORM,
+    DEEP,
+    BIG,
+    KIND,
+    SHORT,
+    FIELD,
+    EXTRA,
+    REGISTERS = 10,
+    SITUATIONS,
+    OUT_SMALL,
+    TABLE_FORM,
+    EMPTY_READ,
+    LINE_LONG,
+    NO_MATCH
+};
 enum { NOW = 64, NONE = 65, MOST = 96 };
 
 /* ---- pattern text ---- */
@@ -28,9 +44,9 @@ static const struct {
     const char *name;
     uint8_t spans[8]; /* pairs lo, hi */
 } classes[12] = {
-    {"alnum", "09AZaz"}, {"alpha", "AZaz"}, {"blank", "\t\t  "}, {"cntrl", {0, 31, 127, 127}}, {"digit", "09"},
-    {"graph", "!~"},     {"lower", "az"},   {"print", " ~"},     {"punct", "!/:@[`{~"},        {"space", "\t\r  "},
-    {"upper", "AZ"},     {"xdigit", "09AFaf"},
+    {"alnum", "09AZaz"},   {"alpha", "AZaz"},   {"blank", "\t\t  "}, {"cntrl", {0, 31, 127, 127}},
+    {"digit", "09"},       {"graph", "!~"},     {"lower", "az"},     {"print", " ~"},
+    {"punct", "!/:@[`{~"}, {"space", "\t\r  "}, {"upper", "AZ"},     {"xdigit", "09AFaf"},
 };
 
 static int add(reader *r, int kind, int a, int b, int records) {
@@ -242,8 +258,8 @@ uint8_t plain_pattern(const uint8_t *text, size_t len, uint8_t *out, size_t out_
 /* ---- the automaton ---- */
 
 typedef struct {
-    uint8_t kind, a, b;   /* the body's small fields, in the file's order; a MASK's next is in b */
-    const uint8_t *bits;  /* a MASK's 32 bytes */
+    uint8_t kind, a, b;  /* the body's small fields, in the file's order; a MASK's next is in b */
+    const uint8_t *bits; /* a MASK's 32 bytes */
 } rec;
 
 typedef struct {
@@ -307,7 +323,7 @@ static int next_of(const rec *r) { return r->kind == 0x11 ? r->bits[2] : r->bits
 typedef struct {
     int count;
     uint8_t recs[64];
-    uint8_t regs[64][8];  /* a register number, or NONE */
+    uint8_t regs[64][8]; /* a register number, or NONE */
 } situation;
 
 /* The list under way: for each record and tag where its place comes from, a register of before, NOW or NONE. */
@@ -491,8 +507,10 @@ static size_t list(const card *c, size_t at, int moves, uint64_t *wrote, uint64_
     for (;;) {
         size_t size = 2;
         if (at >= c->len) return at;
-        if (c->bytes[at] == 0x24 && moves) size = 3;
-        else if (c->bytes[at] != 0x25) return at;
+        if (c->bytes[at] == 0x24 && moves)
+            size = 3;
+        else if (c->bytes[at] != 0x25)
+            return at;
         if (c->len - at < size) return 0;
         int to = c->bytes[at + 1];
         if (to >= c->regs || to < low) return 0;
@@ -638,9 +656,10 @@ uint8_t plain_run(const uint8_t *table, size_t len, const uint8_t *line, size_t 
 }
 
 /*
- * An image word: bits 0 to 6 the next situation, 7 and 8 the kind of list (0 none, 1 SETs only, 2 with a MOVE, 3 one SET),
- * from 9 on where the list stands, or the one SET's register; 0 without a list, so that a word that stays without commands
- * is the situation's own number. Behind the words of all situations, one word each where the situation's item stands.
+ * An image word: bits 0 to 6 the next situation, 7 and 8 the kind of list (0 none, 1 SETs only, 2 with a MOVE, 3 one
+ * SET), from 9 on where the list stands, or the one SET's register; 0 without a list, so that a word that stays without
+ * commands is the situation's own number. Behind the words of all situations, one word each where the situation's item
+ * stands.
  */
 static uint32_t image_word(const card *c, size_t row, size_t *after) {
     uint64_t wrote, read;

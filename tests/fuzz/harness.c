@@ -1,8 +1,9 @@
 /*
- * One input of the fuzzer, as one of the exported calls sees it, beside the plain C version of the call (bench/plain.c).
- * The proved library is not instrumented: the plain version is, and leads the fuzzer through the same cases. Every buffer
- * ends at a page that nobody may touch and has guard bytes before it; inputs lie in pages that cannot be written while the
- * call runs. A broken promise aborts: answers, lengths, places, what output and work memory hold afterwards.
+ * One input of the fuzzer, as one of the exported calls sees it, beside the plain C version of the call
+ * (bench/plain.c). The proved library is not instrumented: the plain version is, and leads the fuzzer through the same
+ * cases. Every buffer ends at a page that nobody may touch and has guard bytes before it; inputs lie in pages that
+ * cannot be written while the call runs. A broken promise aborts: answers, lengths, places, what output and work memory
+ * hold afterwards.
  *
  * Byte 0 of an input chooses the call, byte 1 its output's length, the rest is what the call reads.
  */
@@ -95,8 +96,8 @@ static void fuzz_field(const uint8_t *line, size_t len, const int16_t places[8],
 }
 
 /* The image of a table that is taken: the ride is the run. Damaged, any answer is right that keeps to its buffers. */
-static void fuzz_ride(const uint8_t *table, size_t table_len, const uint8_t *line, size_t len, uint8_t code, uint8_t answer,
-                      const int16_t places[8]) {
+static void fuzz_ride(const uint8_t *table, size_t table_len, const uint8_t *line, size_t len, uint8_t code,
+                      uint8_t answer, const int16_t places[8]) {
     size_t words = table_len > 4 ? table[4] * (size_t)CV_IMAGE_WORDS : 0;
     if (words > CV_IMAGE_MAX) words = CV_IMAGE_MAX;
     uint32_t *image = (uint32_t *)lend_empty(&image_a, words * 4);
@@ -302,7 +303,10 @@ int LLVMFuzzerTestOneInput(const uint8_t *data, size_t len) {
         fuzz_pattern(rest, rest_len, data[1] < 200 ? CV_NET_MAX : data[1] - 200u);
         break;
     case 1:
-        fuzz_build(rest, rest_len, data[1] == 255 ? CV_WORK_MIN - 1 : data[1] == 254 ? 0 : CV_WORK_MIN,
+        fuzz_build(rest, rest_len,
+                   data[1] == 255   ? CV_WORK_MIN - 1
+                   : data[1] == 254 ? 0
+                                    : CV_WORK_MIN,
                    data[1] < 200 ? CV_TABLE_ROOM : 7u * (data[1] - 200u));
         break;
     case 2:

@@ -60,9 +60,8 @@ mod c {
 pub fn pattern(text: &[u8], out: &mut [u8]) -> (u8, usize, usize) {
     let (mut place, mut length) = (0, 0);
     // SAFETY: pointers and lengths are those of live slices; `out` and the two numbers are lent to the call alone.
-    let code = unsafe {
-        c::cv_pattern(text.as_ptr(), text.len(), out.as_mut_ptr(), out.len(), &mut place, &mut length)
-    };
+    let code =
+        unsafe { c::cv_pattern(text.as_ptr(), text.len(), out.as_mut_ptr(), out.len(), &mut place, &mut length) };
     (code, place, length)
 }
 
@@ -103,9 +102,8 @@ pub fn load(table: &[u8]) -> u8 {
 pub fn run(table: &[u8], line: &[u8]) -> (u8, u8, [i16; 8]) {
     let (mut answer, mut places) = (0, [0; 8]);
     // SAFETY: as above; `places` has room for eight.
-    let code = unsafe {
-        c::cv_run(table.as_ptr(), table.len(), line.as_ptr(), line.len(), &mut answer, places.as_mut_ptr())
-    };
+    let code =
+        unsafe { c::cv_run(table.as_ptr(), table.len(), line.as_ptr(), line.len(), &mut answer, places.as_mut_ptr()) };
     (code, answer, places)
 }
 
