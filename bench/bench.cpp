@@ -576,38 +576,47 @@ static void print(const Sheet &s) {
 // ---- ours against the same in plain C, call by call ----
 
 static void print_pairs(const vector<Case> &all, int rounds) {
-    printf("\nours and plain C, microseconds a call (a line of the case), least of the rounds\n");
-    printf("  %-20s %8s %8s %6s  %8s %8s %6s  %9s %9s %6s\n", "case", "load", "plain", "ratio", "run", "plain", "ratio",
-           "build", "plain", "ratio");
+    const char *calls[] = {"pattern", "build", "load", "run"};
+    printf("\nours and plain C, microseconds a call (run: the case's first line)\n  %-20s", "case");
+    for (const char *call : calls) printf(" %9s %8s %6s", call, "plain", "ratio");
+    printf("\n");
     for (const Case &c : all) {
         Run r;
         if (!r.build(c)) exit(1);
-        vector<uint8_t> out(CV_TABLE_ROOM);
-        size_t len, situations, registers;
-        if (plain_build(r.net.data(), r.net_len, out.data(), out.size(), &len, &situations, &registers) != CV_OK ||
+        vector<uint8_t> net(CV_NET_MAX), out(CV_TABLE_ROOM);
+        size_t place, net_len, len, situations, registers;
+        if (plain_pattern(bytes(c.ours), c.ours.size(), net.data(), net.size(), &place, &net_len) != CV_OK ||
+            net_len != r.net_len || memcmp(net.data(), r.net.data(), net_len) != 0 ||
+            plain_build(net.data(), net_len, out.data(), out.size(), &len, &situations, &registers) != CV_OK ||
             len != r.table_len || memcmp(out.data(), r.table.data(), len) != 0) {
-            fprintf(stderr, "bench: the plain builder differs on '%s'\n", c.name.c_str());
+            fprintf(stderr, "bench: the plain makers differ on '%s'\n", c.name.c_str());
             exit(1);
         }
         const string &line = c.lines[0];
         uint8_t answer;
         int16_t p[8];
-        vector<Job> jobs(6);
-        jobs[0].once = [&] { sink = cv_load(r.table.data(), r.table_len); };
-        jobs[1].once = [&] { sink = plain_load(r.table.data(), r.table_len); };
-        jobs[2].once = [&] { sink = cv_run(r.table.data(), r.table_len, bytes(line), line.size(), &answer, p); };
-        jobs[3].once = [&] { sink = plain_run(r.table.data(), r.table_len, bytes(line), line.size(), &answer, p); };
-        jobs[4].once = [&] {
+        vector<Job> jobs(8);
+        jobs[0].once = [&] { sink = cv_pattern(bytes(c.ours), c.ours.size(), net.data(), net.size(), &place, &len); };
+        jobs[1].once = [&] {
+            sink = plain_pattern(bytes(c.ours), c.ours.size(), net.data(), net.size(), &place, &len);
+        };
+        jobs[2].once = [&] {
             sink = cv_build(r.net.data(), r.net_len, r.work.data(), r.work.size(), out.data(), out.size(), &len,
                             &situations, &registers);
         };
-        jobs[5].once = [&] {
+        jobs[3].once = [&] {
             sink = plain_build(r.net.data(), r.net_len, out.data(), out.size(), &len, &situations, &registers);
         };
+        jobs[4].once = [&] { sink = cv_load(r.table.data(), r.table_len); };
+        jobs[5].once = [&] { sink = plain_load(r.table.data(), r.table_len); };
+        jobs[6].once = [&] { sink = cv_run(r.table.data(), r.table_len, bytes(line), line.size(), &answer, p); };
+        jobs[7].once = [&] { sink = plain_run(r.table.data(), r.table_len, bytes(line), line.size(), &answer, p); };
         measure(jobs, rounds);
-        auto us = [&](int i) { return jobs[(size_t)i].least / 1000; };
-        printf("  %-20s %8.2f %8.2f %5.2fx  %8.2f %8.2f %5.2fx  %9.2f %9.2f %5.2fx\n", c.name.c_str(), us(0), us(1),
-               us(0) / us(1), us(2), us(3), us(2) / us(3), us(4), us(5), us(4) / us(5));
+        printf("  %-20s", c.name.c_str());
+        for (size_t i = 0; i < jobs.size(); i += 2)
+            printf(" %9.2f %8.2f %5.1fx", jobs[i].least / 1000, jobs[i + 1].least / 1000,
+                   jobs[i].least / jobs[i + 1].least);
+        printf("\n");
     }
 }
 
@@ -631,14 +640,14 @@ static void draw(const vector<Sheet> &sheets, const string &path, const string &
     double most = 1;
     for (const Sheet &s : sheets)
         for (const Row &r : s.rows) most = std::max(most, r.ns);
-    const double low = 0.5,
-                 scale = (width - left - 70) / std::log(most / low); // a bar of no length is half a nanosecond
+    const double low = 0.25,
+                 scale = (width - left - 70) / std::log(most / low); // a bar of no length is a quarter nanosecond
     fprintf(f,
             "<svg xmlns=\"http://www.w3.org/2000/svg\" width=\"%d\" height=\"%d\" font-family=\"sans-serif\" "
             "font-size=\"10\">\n",
             width, height);
     fprintf(f, "<rect width=\"100%%\" height=\"100%%\" fill=\"white\"/>\n");
-    fprintf(f, "<text x=\"8\" y=\"16\" font-size=\"13\">Nanoseconds per byte, logarithmic from 0.5; least of many "
+    fprintf(f, "<text x=\"8\" y=\"16\" font-size=\"13\">Nanoseconds per byte, logarithmic from 0.25; least of many "
                "rounds</text>\n");
     fprintf(f, "<text x=\"8\" y=\"31\">%s</text>\n", escaped(date + (machine.empty() ? "" : ", " + machine)).c_str());
     int y = 42;

@@ -48,4 +48,5 @@ if has librust-regex+default-dev && cargo build --quiet --offline --release --ma
 fi
 g++ -std=c++17 -O3 -Wall -Wextra "${have[@]}" bench/bench.cpp "${objects[@]}" "$archive" "${libraries[@]}" \
   -o "$built/bench"
-exec "$built/bench" --date "$(date +%F)" --class "$(nproc) cores, $(uname -m)" "$@"
+kind=$(sed -n 's/^model name[^:]*: *//p' /proc/cpuinfo | head -n 1)
+exec "$built/bench" --date "$(date +%F)" --class "$(nproc) cores, ${kind:-$(uname -m)}" "$@"
