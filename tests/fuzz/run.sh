@@ -26,6 +26,7 @@ libfuzzer)
 afl)
   need afl-fuzz afl++
   AFL_QUIET=1 afl-clang-fast -g -O1 -fsanitize=fuzzer "${sources[@]}" "$archive" -o "$built/fuzz-afl"
+  rm -rf "$built/afl"
   AFL_SKIP_CPUFREQ=1 AFL_I_DONT_CARE_ABOUT_MISSING_CRASHES=1 AFL_NO_UI=1 AFL_NO_AFFINITY=1 nice -n 19 \
     afl-fuzz -V "$seconds" -i "$built/seeds" -o "$built/afl" -- "$built/fuzz-afl" >"$built/afl.log"
   grep -E '^(execs_done|corpus_count|saved_crashes|saved_hangs|bitmap_cvg)' "$built/afl/default/fuzzer_stats"
