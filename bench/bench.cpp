@@ -33,13 +33,6 @@
 #include <oniguruma.h>
 #endif
 
-// The calls that load once, when the library has them: run.sh looks.
-#ifdef HAVE_RIDE
-extern "C" uint8_t cv_mount(const uint8_t *table, size_t len, uint32_t *image, size_t image_len);
-extern "C" uint8_t cv_ride(const uint8_t *table, size_t len, const uint32_t *image, size_t image_len,
-                           const uint8_t *line, size_t line_len, uint8_t *answer, int16_t places[8]);
-#endif
-
 using std::string;
 using std::vector;
 
@@ -201,7 +194,7 @@ struct PlainRun : Card {
 };
 
 struct Image : Card {
-    vector<uint32_t> image = vector<uint32_t>(96 * 257 + 1024);
+    vector<uint32_t> image = vector<uint32_t>(CV_IMAGE_MAX);
     using Card::Card;
 };
 
@@ -220,7 +213,6 @@ struct PlainRide : Image {
     bool builds() override { return false; }
 };
 
-#ifdef HAVE_RIDE
 struct Ride : Image {
     Ride() : Image("cv_ride") { note = "loaded once"; }
     bool build(const Case &c) override {
@@ -232,9 +224,8 @@ struct Ride : Image {
         return told(cv_ride(table.data(), table_len, image.data(), image.size(), bytes(line), line.size(), &answer, p),
                     p, places);
     }
-    size_t extra() override { return table_len + situations * 257 * 4; }
+    size_t extra() override { return table_len + situations * CV_IMAGE_WORDS * 4; }
 };
-#endif
 
 // Places of the case's tags out of a peer's groups.
 template <class F> static void places_of(const Case &c, int32_t places[8], F bound) {
@@ -413,9 +404,7 @@ struct RustRegex : Engine {
 
 static vector<std::unique_ptr<Engine>> engines() {
     vector<std::unique_ptr<Engine>> all;
-#ifdef HAVE_RIDE
     all.emplace_back(new Ride);
-#endif
     all.emplace_back(new Run);
     all.emplace_back(new PlainRun);
     all.emplace_back(new PlainRide);

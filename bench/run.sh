@@ -28,7 +28,6 @@ use libre2-dev HAVE_RE2 -lre2
 use libpcre2-dev HAVE_PCRE2 -lpcre2-8
 use libtre-dev HAVE_TRE -ltre
 use libonig-dev HAVE_ONIG -lonig
-nm "$archive" 2>/dev/null | grep -q ' T cv_ride$' && have+=(-DHAVE_RIDE)
 gcc -std=c11 -O3 -Wall -Wextra -pedantic -c bench/plain.c -o "$built/plain.o"
 objects+=("$built/plain.o")
 # re2c's functions are part of the cases: without re2c they are absent and the engine is left out.

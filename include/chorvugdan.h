@@ -29,6 +29,8 @@ extern "C" {
 #define CV_TAGS 8             /* places that a run gives */
 #define CV_REGISTERS_MAX 64   /* registers of a card */
 #define CV_SITUATIONS_MAX 96  /* situations of a card */
+#define CV_IMAGE_WORDS 257    /* words of an image for each situation of its card */
+#define CV_IMAGE_MAX 24672    /* words that the image of any card fits in */
 #define CV_NO_ANSWER 255      /* a run's answer unless CV_OK */
 #define CV_ABSENT (-1)        /* a place that no tag stored */
 
@@ -46,11 +48,11 @@ enum cv_code {
     CV_WORK_SMALL = 9,    /* cv_build: less than 65,536 bytes of work memory */
     CV_REGISTERS = 10,    /* cv_build: a situation needs more than 64 registers */
     CV_SITUATIONS = 11,   /* cv_build: more than 96 situations */
-    CV_OUT_SMALL = 12,    /* cv_pattern, cv_build: the output is shorter than the whole result */
-    CV_TABLE_FORM = 13,   /* cv_load, cv_run: not the form of a card */
-    CV_EMPTY_READ = 14,   /* cv_load, cv_run: some line would read an empty register */
-    CV_LINE_LONG = 15,    /* cv_run: the line has more than 32,767 bytes */
-    CV_NO_MATCH = 16,     /* cv_run: the line is not of the pattern */
+    CV_OUT_SMALL = 12,    /* cv_pattern, cv_build, cv_mount: the output is shorter than the whole result */
+    CV_TABLE_FORM = 13,   /* cv_load, cv_run, cv_mount, cv_ride: not the form of a card, or of its image */
+    CV_EMPTY_READ = 14,   /* cv_load, cv_run, cv_mount: some line would read an empty register */
+    CV_LINE_LONG = 15,    /* cv_run, cv_ride: the line has more than 32,767 bytes */
+    CV_NO_MATCH = 16,     /* cv_run, cv_ride: the line is not of the pattern */
     CV_FIELD_ABSENT = 17, /* cv_field_code, cv_reading_code: one of the two places is absent */
     CV_FIELD_BACK = 18,   /* cv_field_code, cv_reading_code: the part would end before it starts */
     CV_FIELD_PAST = 19,   /* cv_field_code, cv_reading_code: the part would end past the line */
@@ -90,6 +92,19 @@ uint8_t cv_load(const uint8_t *table, size_t table_len);
  */
 uint8_t cv_run(const uint8_t *table, size_t table_len, const uint8_t *line, size_t line_len,
                uint8_t *answer, int16_t places[CV_TAGS]);
+
+/*
+ * Judges a card once and writes its image, 257 words a situation. CV_OK, or 13, 14, 12 in that order.
+ * Refused: the image is as it was. Words past the image's own keep what they hold.
+ */
+uint8_t cv_mount(const uint8_t *table, size_t table_len, uint32_t *image, size_t image_len);
+
+/*
+ * Runs over a line by an image. With the image that cv_mount wrote for this card it answers as cv_run does, without
+ * judging again. Any other bytes and words are safe too: what points outside is answered 13.
+ */
+uint8_t cv_ride(const uint8_t *table, size_t table_len, const uint32_t *image, size_t image_len,
+                const uint8_t *line, size_t line_len, uint8_t *answer, int16_t places[CV_TAGS]);
 
 /*
  * The part of a line from one place to another: CV_OK, or 17 if a place is negative, 18 if

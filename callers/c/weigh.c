@@ -10,6 +10,7 @@
 static uint8_t card[CV_TABLE_ROOM];
 static uint8_t line[CV_LINE_MAX + 1]; /* one more than a line may have: a longer one is seen as such */
 static uint8_t part[CV_LINE_MAX];
+static uint32_t image[CV_IMAGE_MAX]; /* of the card: judged once, not once a line */
 
 /* The next line without its byte 10, cut at the buffer's end; 0 when there is none. */
 static int next_line(FILE *feed, size_t *len) {
@@ -44,7 +45,7 @@ int main(int argc, char **argv) {
         fprintf(stderr, "%s: longer than %d bytes\n", argv[1], CV_TABLE_ROOM);
         return 1;
     }
-    uint8_t code = cv_load(card, card_len);
+    uint8_t code = cv_mount(card, card_len, image, CV_IMAGE_MAX);
     if (code != CV_OK) {
         fprintf(stderr, "%s: not a card (%d)\n", argv[1], code);
         return 1;
@@ -52,7 +53,7 @@ int main(int argc, char **argv) {
     for (size_t len; next_line(stdin, &len);) {
         uint8_t answer;
         int16_t places[CV_TAGS];
-        code = cv_run(card, card_len, line, len, &answer, places);
+        code = cv_ride(card, card_len, image, CV_IMAGE_MAX, line, len, &answer, places);
         if (code != CV_OK) {
             printf("no reading (%d)\n", code);
             continue;

@@ -32,7 +32,7 @@ typedef struct {
     size_t room;
 } arena;
 
-static arena in_a, in_b, out_a, out_b, work_a;
+static arena in_a, in_b, out_a, out_b, work_a, image_a;
 
 static void open_arena(arena *a, size_t room) {
     room = (room + GUARD + PAGE - 1) / PAGE * PAGE;
@@ -95,6 +95,24 @@ static void fuzz_field(const uint8_t *line, size_t len, const int16_t places[8],
     }
 }
 
+/* The image of a table that is taken: the ride is the run. Damaged, any answer is right that keeps to its buffers. */
+static void fuzz_ride(const uint8_t *table, size_t table_len, const uint8_t *line, size_t len, uint8_t code,
+                      uint8_t answer, const int16_t places[8]) {
+    size_t words = table_len > 4 ? table[4] * (size_t)CV_IMAGE_WORDS : 0;
+    if (words > CV_IMAGE_MAX) words = CV_IMAGE_MAX;
+    uint32_t *image = (uint32_t *)lend_empty(&image_a, words * 4);
+    uint8_t mounted = cv_mount(table, table_len, image, words), got;
+    int16_t got_places[8];
+    CHECK(mounted == plain_load(table, table_len));
+    CHECK(all_are((const uint8_t *)image - GUARD, GUARD, FILL));
+    if (mounted != CV_OK) CHECK(all_are((const uint8_t *)image, words * 4, FILL));
+    uint8_t ridden = cv_ride(table, table_len, image, words, line, len, &got, got_places);
+    if (mounted == CV_OK) CHECK(ridden == code && got == answer && memcmp(got_places, places, 16) == 0);
+    for (size_t i = 0; i < words; i += 1 + len % 7) image[i] ^= (uint32_t)1 << (i + len) % 32;
+    ridden = cv_ride(table, table_len, image, words, line, len, &got, got_places);
+    CHECK(ridden == CV_OK || ridden == CV_TABLE_FORM || ridden == CV_LINE_LONG || ridden == CV_NO_MATCH);
+}
+
 static void fuzz_run(const uint8_t *table, size_t table_len, const uint8_t *line, size_t len) {
     struct {
         int16_t before[4], places[8], after[4];
@@ -108,6 +126,7 @@ static void fuzz_run(const uint8_t *table, size_t table_len, const uint8_t *line
     CHECK(memcmp(ours.places, plain_places, sizeof plain_places) == 0);
     CHECK(all_are((const uint8_t *)ours.before, 8, FILL) && all_are((const uint8_t *)ours.after, 8, FILL));
     CHECK(code == CV_OK || (answer[1] == 255 && all_are((const uint8_t *)ours.places, 16, 255)));
+    fuzz_ride(table, table_len, line, len, code, plain_answer, plain_places);
     for (int t = 0; t < 8; t++) CHECK(ours.places[t] >= -1 && (ours.places[t] < 0 || (size_t)ours.places[t] <= len));
 }
 
@@ -273,6 +292,7 @@ int LLVMFuzzerTestOneInput(const uint8_t *data, size_t len) {
         open_arena(&out_a, 1 << 17);
         open_arena(&out_b, 1 << 13);
         open_arena(&work_a, 1 << 17);
+        open_arena(&image_a, CV_IMAGE_MAX * 4);
     }
     if (len < 2 || len > 1 << 15) return 0;
     const uint8_t *rest = data + 2;

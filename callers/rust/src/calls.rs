@@ -32,6 +32,17 @@ mod c {
             answer: *mut u8,
             places: *mut i16,
         ) -> u8;
+        pub fn cv_mount(table: *const u8, table_len: usize, image: *mut u32, image_len: usize) -> u8;
+        pub fn cv_ride(
+            table: *const u8,
+            table_len: usize,
+            image: *const u32,
+            image_len: usize,
+            line: *const u8,
+            line_len: usize,
+            answer: *mut u8,
+            places: *mut i16,
+        ) -> u8;
         pub fn cv_reading_code(line: *const u8, line_len: usize, places: *const i16, a: u8, b: u8) -> u8;
         pub fn cv_reading(
             line: *const u8,
@@ -93,6 +104,30 @@ pub fn run(table: &[u8], line: &[u8]) -> (u8, u8, [i16; 8]) {
     // SAFETY: as above; `places` has room for eight.
     let code =
         unsafe { c::cv_run(table.as_ptr(), table.len(), line.as_ptr(), line.len(), &mut answer, places.as_mut_ptr()) };
+    (code, answer, places)
+}
+
+pub fn mount(table: &[u8], image: &mut [u32]) -> u8 {
+    // SAFETY: as above.
+    unsafe { c::cv_mount(table.as_ptr(), table.len(), image.as_mut_ptr(), image.len()) }
+}
+
+/// The code, the answer and the eight places.
+pub fn ride(table: &[u8], image: &[u32], line: &[u8]) -> (u8, u8, [i16; 8]) {
+    let (mut answer, mut places) = (0, [0; 8]);
+    // SAFETY: as above; `places` has room for eight.
+    let code = unsafe {
+        c::cv_ride(
+            table.as_ptr(),
+            table.len(),
+            image.as_ptr(),
+            image.len(),
+            line.as_ptr(),
+            line.len(),
+            &mut answer,
+            places.as_mut_ptr(),
+        )
+    };
     (code, answer, places)
 }
 

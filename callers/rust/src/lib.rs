@@ -32,6 +32,9 @@ const WORK: usize = 65536;
 const TABLE_ROOM: usize = 65536;
 const TABLE_MAX: usize = 5 + 64 * 2 + 96 * (10 + 256 * (4 + 64 * 3));
 
+/// Words of an image for each situation.
+const IMAGE_WORDS: usize = 257;
+
 /// A code that the call's promise excludes for what this crate hands it.
 fn excluded(call: &str, code: u8) -> ! {
     unreachable!("{call} answered {code}")
@@ -252,12 +255,42 @@ impl Table {
     /// # Ok::<(), chorvugdan::Error>(())
     /// ```
     pub fn read<'l>(&self, line: &'l [u8]) -> Result<Reading<'l>, LineError> {
-        match calls::run(&self.bytes, line) {
-            (0, answer, places) => Ok(Reading { line, answer, places }),
-            (15, ..) => Err(LineError::Long),
-            (16, ..) => Err(LineError::NoMatch),
-            (code, ..) => excluded("cv_run", code),
+        Reading::told(calls::run(&self.bytes, line), line)
+    }
+
+    /// Lays the table out for lines to ride over: judged once, not once a line.
+    pub fn mount(self) -> Mounted {
+        let mut image = vec![0; IMAGE_WORDS * self.situations()];
+        match calls::mount(&self.bytes, &mut image) {
+            0 => Mounted { table: self, image },
+            code => excluded("cv_mount", code),
         }
+    }
+}
+
+/// A table with its image: reads the same as the table, faster.
+///
+/// ```
+/// # use chorvugdan::{Pattern, Tag};
+/// let mounted = Pattern::new("a*@0b*")?.build()?.mount();
+/// assert_eq!(mounted.read(b"aab")?.place(Tag::T0), Some(2));
+/// # Ok::<(), chorvugdan::Error>(())
+/// ```
+#[derive(Clone, Debug, PartialEq, Eq)]
+pub struct Mounted {
+    table: Table,
+    image: Vec<u32>,
+}
+
+impl Mounted {
+    /// The table.
+    pub fn table(&self) -> &Table {
+        &self.table
+    }
+
+    /// Rides over a line.
+    pub fn read<'l>(&self, line: &'l [u8]) -> Result<Reading<'l>, LineError> {
+        Reading::told(calls::ride(&self.table.bytes, &self.image, line), line)
     }
 }
 
@@ -270,6 +303,16 @@ pub struct Reading<'l> {
 }
 
 impl<'l> Reading<'l> {
+    /// What a run over a judged table, or a ride over its own image, told.
+    fn told((code, answer, places): (u8, u8, [i16; 8]), line: &'l [u8]) -> Result<Reading<'l>, LineError> {
+        match code {
+            0 => Ok(Reading { line, answer, places }),
+            15 => Err(LineError::Long),
+            16 => Err(LineError::NoMatch),
+            code => excluded("a run", code),
+        }
+    }
+
     /// The line.
     pub fn line(&self) -> &'l [u8] {
         self.line

@@ -9,7 +9,9 @@ fn table(text: impl AsRef<[u8]>) -> Table {
 /// The places of tags 0 and 1, -1 for none.
 fn places(text: &str, line: &[u8]) -> Result<(i32, i32), LineError> {
     let table = table(text);
-    let reading = table.read(line)?;
+    let mounted = table.clone().mount();
+    assert_eq!(mounted.read(line), table.read(line));
+    let reading = mounted.read(line)?;
     let place = |tag| reading.place(tag).map_or(-1, |p| p as i32);
     Ok((place(Tag::T0), place(Tag::T1)))
 }
