@@ -576,8 +576,8 @@ static void print(const Sheet &s) {
 // ---- ours against the same in plain C, call by call ----
 
 static void print_pairs(const vector<Case> &all, int rounds) {
-    const char *calls[] = {"pattern", "build", "load", "run"};
-    printf("\nours and plain C, microseconds a call (run: the case's first line)\n  %-20s", "case");
+    const char *calls[] = {"pattern", "build", "load", "mount", "run", "ride"};
+    printf("\nours and plain C, microseconds a call (run and ride: the case's first line)\n  %-20s", "case");
     for (const char *call : calls) printf(" %9s %8s %6s", call, "plain", "ratio");
     printf("\n");
     for (const Case &c : all) {
@@ -595,7 +595,8 @@ static void print_pairs(const vector<Case> &all, int rounds) {
         const string &line = c.lines[0];
         uint8_t answer;
         int16_t p[8];
-        vector<Job> jobs(8);
+        vector<uint32_t> ours(CV_IMAGE_MAX), plain(CV_IMAGE_MAX);
+        vector<Job> jobs(12);
         jobs[0].once = [&] { sink = cv_pattern(bytes(c.ours), c.ours.size(), net.data(), net.size(), &place, &len); };
         jobs[1].once = [&] {
             sink = plain_pattern(bytes(c.ours), c.ours.size(), net.data(), net.size(), &place, &len);
@@ -609,8 +610,17 @@ static void print_pairs(const vector<Case> &all, int rounds) {
         };
         jobs[4].once = [&] { sink = cv_load(r.table.data(), r.table_len); };
         jobs[5].once = [&] { sink = plain_load(r.table.data(), r.table_len); };
-        jobs[6].once = [&] { sink = cv_run(r.table.data(), r.table_len, bytes(line), line.size(), &answer, p); };
-        jobs[7].once = [&] { sink = plain_run(r.table.data(), r.table_len, bytes(line), line.size(), &answer, p); };
+        jobs[6].once = [&] { sink = cv_mount(r.table.data(), r.table_len, ours.data(), ours.size()); };
+        jobs[7].once = [&] { sink = plain_mount(r.table.data(), r.table_len, plain.data(), plain.size()); };
+        jobs[8].once = [&] { sink = cv_run(r.table.data(), r.table_len, bytes(line), line.size(), &answer, p); };
+        jobs[9].once = [&] { sink = plain_run(r.table.data(), r.table_len, bytes(line), line.size(), &answer, p); };
+        jobs[10].once = [&] {
+            sink = cv_ride(r.table.data(), r.table_len, ours.data(), ours.size(), bytes(line), line.size(), &answer, p);
+        };
+        jobs[11].once = [&] {
+            sink = plain_ride(r.table.data(), r.table_len, plain.data(), plain.size(), bytes(line), line.size(),
+                              &answer, p);
+        };
         measure(jobs, rounds);
         printf("  %-20s", c.name.c_str());
         for (size_t i = 0; i < jobs.size(); i += 2)
