@@ -13,7 +13,7 @@ ghost use Rattle.explore.specs.Items.{Formed};
 ghost use Rattle.explore.specs.States.{threads-of, Fit};
 ghost use Rattle.explore.specs.Slots.{slot, slots};
 ghost use Rattle.explore.specs.Keys.{keys-of};
-ghost use Rattle.explore.specs.Explore.{Kept};
+ghost use Rattle.explore.specs.Explore.{Kept, Told};
 ghost use Rattle.build.specs.Card.{same-cmd, commands, most, sit-of, card-of};
 ghost use Rattle.build.specs.Writing.{order-of, orders-of, command, row-of, Wrote, Closed, Does, alike-deeds, Given, Goes-on, rows-bytes, sits-bytes, Ends, All, Needs};
 ghost use Rattle.build.specs.Build.{refusal, Makes, Attempts, Builds};
@@ -247,6 +247,7 @@ pub struct Open {
 fn row_step(
     file: &[u8],
     offs: &[usize],
+    news: &[u8],
     work: &[u8],
     out: &mut [u8],
     s: Found,
@@ -255,13 +256,13 @@ fn row_step(
     q: Open,
     b: u8,
 ) -> Open
-    requires { ⌜ Formed (now file) (now offs) ⌝ }
+    requires { ⌜ Formed (now file) (now offs) × Told (net-at (now file) (now offs)) (length (now offs)) (now news) ⌝ }
     requires { ⌜ Given (net-at (now file) (now offs)) (length (now offs)) (now work) count s regs ⌝ }
     requires { ⌜ (0 < b) × (q .at + 196 ≤ 8000000) ⌝ }
     requires { ⌜ Does (net-at (now file) (now offs)) (slots (now work) 0 count) (threads-of s) (b - 1) (q .deed) ⌝ }
     ensures { λ a. ⌜ Goes-on (net-at (now (file .entry)) (now (offs .entry))) (slots (now (work .entry)) 0 count) (threads-of s) (now (out .entry)) (now (out .exit)) q b a ⌝ }
 {
-    if !explore::fresh(file, offs, b) {
+    if news[b as usize] == 0 {
         return q;
     }
     let e = byte_deed(file, offs, work, s, regs, count, b);
@@ -281,6 +282,7 @@ fn row_step(
 fn emit_rows(
     file: &[u8],
     offs: &[usize],
+    news: &[u8],
     work: &[u8],
     out: &mut [u8],
     s: Found,
@@ -288,7 +290,7 @@ fn emit_rows(
     count: usize,
     at: usize,
 ) -> usize
-    requires { ⌜ Formed (now file) (now offs) ⌝ }
+    requires { ⌜ Formed (now file) (now offs) × Told (net-at (now file) (now offs)) (length (now offs)) (now news) ⌝ }
     requires { ⌜ Given (net-at (now file) (now offs)) (length (now offs)) (now work) count s regs ⌝ }
     requires { ⌜ at + 50176 ≤ 8000000 ⌝ }
     ensures { λ r. ⌜ Wrote (now (out .entry)) (now (out .exit)) at (rows-bytes (net-at (now (file .entry)) (now (offs .entry))) (slots (now (work .entry)) 0 count) (threads-of s)) r × (r ≤ at + 50176) ⌝ }
@@ -301,7 +303,7 @@ fn emit_rows(
     };
     let mut b: usize = 1;
     while b < 256 {
-        q = row_step(file, offs, work, out, s, regs, count, q, b as u8);
+        q = row_step(file, offs, news, work, out, s, regs, count, q, b as u8);
         b += 1;
     }
     let d = q.deed;
@@ -353,13 +355,14 @@ fn emit_fields(out: &mut [u8], at: usize, e: Ending) -> usize
 fn emit_sit(
     file: &[u8],
     offs: &[usize],
+    news: &[u8],
     work: &[u8],
     out: &mut [u8],
     i: usize,
     count: usize,
     at: usize,
 ) -> usize
-    requires { ⌜ Formed (now file) (now offs) ⌝ }
+    requires { ⌜ Formed (now file) (now offs) × Told (net-at (now file) (now offs)) (length (now offs)) (now news) ⌝ }
     requires { ⌜ All (net-at (now file) (now offs)) (length (now offs)) (now work) count × (i < count) ⌝ }
     requires { ⌜ at + 50186 ≤ 8000000 ⌝ }
     ensures { λ r. ⌜ Wrote (now (out .entry)) (now (out .exit)) at (sit-bytes (sit-of (net-at (now (file .entry)) (now (offs .entry))) (slots (now (work .entry)) 0 count) (slot (now (work .entry)) i))) r × (r ≤ at + 50186) ⌝ }
@@ -370,18 +373,19 @@ fn emit_sit(
     let p = emit(out, at, 0x22);
     let q = emit(out, p, e.answer);
     let r = emit_fields(out, q, e);
-    emit_rows(file, offs, work, out, s, regs, count, r)
+    emit_rows(file, offs, news, work, out, s, regs, count, r)
 }
 
 fn emit_sits(
     file: &[u8],
     offs: &[usize],
+    news: &[u8],
     work: &[u8],
     out: &mut [u8],
     count: usize,
     at: usize,
 ) -> usize
-    requires { ⌜ Formed (now file) (now offs) ⌝ }
+    requires { ⌜ Formed (now file) (now offs) × Told (net-at (now file) (now offs)) (length (now offs)) (now news) ⌝ }
     requires { ⌜ All (net-at (now file) (now offs)) (length (now offs)) (now work) count ⌝ }
     requires { ⌜ at ≤ 200 ⌝ }
     ensures { λ r. ⌜ Wrote (now (out .entry)) (now (out .exit)) at (sits-bytes (net-at (now (file .entry)) (now (offs .entry))) (slots (now (work .entry)) 0 count) (slots (now (work .entry)) 0 count)) r × (r ≤ 5000000) ⌝ }
@@ -389,7 +393,7 @@ fn emit_sits(
     let mut p = at;
     let mut i: usize = 0;
     while i < count {
-        p = emit_sit(file, offs, work, out, i, count, p);
+        p = emit_sit(file, offs, news, work, out, i, count, p);
         i += 1;
     }
     p
@@ -444,12 +448,13 @@ fn most_of(work: &[u8], count: usize) -> u8
 fn emit_table(
     file: &[u8],
     offs: &[usize],
+    news: &[u8],
     work: &[u8],
     out: &mut [u8],
     tags: u8,
     count: usize,
 ) -> usize
-    requires { ⌜ Formed (now file) (now offs) ⌝ }
+    requires { ⌜ Formed (now file) (now offs) × Told (net-at (now file) (now offs)) (length (now offs)) (now news) ⌝ }
     requires { ⌜ All (net-at (now file) (now offs)) (length (now offs)) (now work) count ⌝ }
     requires { ⌜ (0 < count) × (slot (now work) 0 ≡ situation (net-at (now file) (now offs)) []) ⌝ }
     ensures { λ r. ⌜ Wrote (now (out .entry)) (now (out .exit)) 0 (bytesOf (card-of tags (net-at (now (file .entry)) (now (offs .entry))) (slots (now (work .entry)) 0 count))) r × (r ≤ 5000000) ⌝ }
@@ -458,7 +463,7 @@ fn emit_table(
     let p = emit_head(out, tags, m, count as u8);
     let n = work[1];
     let q = emit_start(out, p, n);
-    emit_sits(file, offs, work, out, count, q)
+    emit_sits(file, offs, news, work, out, count, q)
 }
 
 // ---- the whole build
@@ -483,23 +488,23 @@ fn refuse(code: u8) -> Built
 }
 
 // The table of a legal file, whose records stand at `offs`. The table is first written to nowhere, for its length.
-fn make(file: &[u8], offs: &[usize], tags: u8, work: &mut [u8], out: &mut [u8]) -> Built
-    requires { ⌜ Formed (now file) (now offs) × (0 < length (now offs)) ⌝ }
+fn lay(file: &[u8], offs: &[usize], news: &[u8], tags: u8, work: &mut [u8], out: &mut [u8]) -> Built
+    requires { ⌜ Formed (now file) (now offs) × ((0 < length (now offs)) × Told (net-at (now file) (now offs)) (length (now offs)) (now news)) ⌝ }
     requires { ⌜ 65536 ≤ length (now work) ⌝ }
     ensures size { λ _. ⌜ length (now (work .exit)) ≡ length (now (work .entry)) ⌝ }
     ensures { λ a. ⌜ Makes tags (net-at (now (file .entry)) (now (offs .entry))) (now (out .entry)) (now (out .exit)) a ⌝ }
 {
-    let t = explore::explore(file, offs, work);
+    let t = explore::explore(file, offs, news, work);
     if t.answer != 0 {
         return refuse(t.answer);
     }
     let n = t.count;
     let mut nowhere = [0u8; 1];
-    let length = emit_table(file, offs, work, &mut nowhere, tags, n);
+    let length = emit_table(file, offs, news, work, &mut nowhere, tags, n);
     if out.len() < length {
         return refuse(12);
     }
-    emit_table(file, offs, work, out, tags, n);
+    emit_table(file, offs, news, work, out, tags, n);
     let m = most_of(work, n);
     Built {
         code: 0,
@@ -507,6 +512,17 @@ fn make(file: &[u8], offs: &[usize], tags: u8, work: &mut [u8], out: &mut [u8]) 
         situations: n,
         registers: m as usize,
     }
+}
+
+// The fresh bytes are the same for all situations: they are told once.
+fn make(file: &[u8], offs: &[usize], tags: u8, work: &mut [u8], out: &mut [u8]) -> Built
+    requires { ⌜ Formed (now file) (now offs) × (0 < length (now offs)) ⌝ }
+    requires { ⌜ 65536 ≤ length (now work) ⌝ }
+    ensures size { λ _. ⌜ length (now (work .exit)) ≡ length (now (work .entry)) ⌝ }
+    ensures { λ a. ⌜ Makes tags (net-at (now (file .entry)) (now (offs .entry))) (now (out .entry)) (now (out .exit)) a ⌝ }
+{
+    let news = explore::news(file, offs);
+    lay(file, offs, &news, tags, work, out)
 }
 
 // All but the clearing of the work memory.

@@ -1,12 +1,13 @@
 -- A byte that every record treats as the byte before it leads nowhere new. Assumes nothing.
-use mathlib.Core.Path.{_≡_, refl, sym, ap, _∙_}
+use mathlib.Core.Path.{_≡_, refl, sym, ap, subst, _∙_}
 use mathlib.Core.Logic.{_⊎_, inl, inr}
 use mathlib.Core.Bool.{Bool, true, false, _||_}
 use mathlib.Core.List.{List, [], _∷_, _++_, map}
 use Prim.Native.Nat.{ℕ, _+_, _-_, _<_}
 use native.Mathlib.Omega.{arith}
 use lib.Dec.{eqb}
-use lib.ListN.{length}
+use lib.ListN.{length, getD, set, replicate, length-set, length-replicate, getD-replicate}
+use lib.Seq.{getD-set-other}
 use borrow.Author.Tests.{eqb-true, eqb-false}
 use Rattle.net.specs.Rec.{Net, rec}
 use Rattle.paths.specs.Search.{Thread}
@@ -22,7 +23,7 @@ use Rattle.explore.specs.Items.{Formed, lands}
 use Rattle.explore.specs.States.{Below}
 use Rattle.paths.specs.Limits.{bytes}
 use Rattle.paths.specs.Limits.{Sit}
-use Rattle.explore.specs.Explore.{Alike}
+use Rattle.explore.specs.Explore.{Alike, Told}
 use Rattle.explore.proofs.Reading.{net-inside}
 use Rattle.explore.proofs.Biting.{bite-some, bite-none}
 use Rattle.explore.proofs.Exploration.{once-snoc}
@@ -91,3 +92,15 @@ alike-more A b c r h e k d = by (Bool-cases (eqb k r))
     by : (eqb k r ≡ true) ⊎ (eqb k r ≡ false) → lands (bite b (rec A k)) ≡ lands (bite c (rec A k))
     by (inl z) = let q = eqb-true k r z in rw q e
     by (inr z) = let q = eqb-false k r z in h k (omega arith)
+
+-- marks of which none is 0 tell nothing
+pub told-none : (A : Net) (N : ℕ) → Told A N (replicate 256 1)
+told-none A N = record { size = length-replicate {A = ℕ} 256 1; old = λ b d e. absurd (let z : _≡_ {A = ℕ} 1 0 = sym (getD-replicate {A = ℕ} 256 b 1 0 d) ∙ e in omega arith) }
+
+-- one mark more
+pub told-more : (A : Net) (N : ℕ) (t : List ℕ) (b : ℕ) → Told A N t → Alike A N b → Told A N (set t b 0)
+told-more A N t b h a = record { size = length-set t b 0 ∙ h .size; old = λ k d e. by k d e (Bool-cases (eqb k b)) }
+  where
+    by : (k : ℕ) → k < 256 → getD (set t b 0) k 0 ≡ 0 → (eqb k b ≡ true) ⊎ (eqb k b ≡ false) → Alike A N k
+    by k d e (inl z) = subst (Alike A N) (sym (eqb-true k b z)) a
+    by k d e (inr z) = h .old k d (sym (getD-set-other t b k 0 0 (eqb-false k b z)) ∙ e)

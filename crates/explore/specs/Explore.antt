@@ -55,3 +55,8 @@ pub record Explores (A : Net) (N : ℕ) (w w′ : List ℕ) (a : Tried) : Type 0
 pub record Alike (A : Net) (N b : ℕ) : Type 0 where
   pub positive : 0 < b
   pub same : (r : ℕ) → r < N → lands (bite b (rec A r)) ≡ lands (bite (b - 1) (rec A r))
+
+-- a mark for every byte: 0 only where every record treats the byte as the byte before it
+pub record Told (A : Net) (N : ℕ) (t : List ℕ) : Type 0 where
+  pub size : length t ≡ 256
+  pub old : (b : ℕ) → b < 256 → getD t b 0 ≡ 0 → Alike A N b

@@ -8,7 +8,7 @@ ghost use Prim.Native.Nat.{_*_};
 ghost use Rattle.paths.specs.Equal.{same-thread, same-situation};
 ghost use Rattle.paths.specs.Numbering.{among};
 ghost use Rattle.explore.specs.Slots.{thread-at, slot, slots, Put-at, Stored, Placed};
-ghost use Rattle.explore.specs.Explore.{Kept, Tries, Expands, Explores, Alike};
+ghost use Rattle.explore.specs.Explore.{Kept, Tries, Expands, Explores, Alike, Told};
 ghost use Rattle.explore.specs.Keys.{keys-of, Gathers, names, Numbers, Stepped, Begun};
 ghost use Prim.Native.Nat.{ℕ, _+_, _<_, _≤_};
 ghost use lib.ListN.{length, getD, set};
@@ -620,7 +620,7 @@ fn try_byte(
 }
 
 // Whether some record treats byte b in another way than the byte before it.
-pub fn fresh(file: &[u8], offs: &[usize], b: u8) -> bool
+fn fresh(file: &[u8], offs: &[usize], b: u8) -> bool
     requires { ⌜ Formed (now file) (now offs) ⌝ }
     ensures { λ a. ⌜ (a ≡ false → Alike (net-at (now (file .entry)) (now (offs .entry))) (length (now (offs .entry))) b) ⌝ }
 {
@@ -637,9 +637,32 @@ pub fn fresh(file: &[u8], offs: &[usize], b: u8) -> bool
     false
 }
 
-// What every byte leads to from situation i.
-fn expand(file: &[u8], offs: &[usize], work: &mut [u8], i: usize, count: usize) -> Tried
+// For every byte 1 where it is fresh, and 0 where every record treats it as the byte before it.
+pub fn news(file: &[u8], offs: &[usize]) -> [u8; 256]
     requires { ⌜ Formed (now file) (now offs) ⌝ }
+    ensures { λ a. ⌜ Told (net-at (now (file .entry)) (now (offs .entry))) (length (now (offs .entry))) a ⌝ }
+{
+    let mut told = [1u8; 256];
+    let mut b: usize = 0;
+    while b < 256 {
+        if !fresh(file, offs, b as u8) {
+            told[b] = 0;
+        }
+        b += 1;
+    }
+    told
+}
+
+// What every byte leads to from situation i.
+fn expand(
+    file: &[u8],
+    offs: &[usize],
+    news: &[u8],
+    work: &mut [u8],
+    i: usize,
+    count: usize,
+) -> Tried
+    requires { ⌜ Formed (now file) (now offs) × Told (net-at (now file) (now offs)) (length (now offs)) (now news) ⌝ }
     requires { ⌜ Kept (length (now offs)) (now work) count × (i < count) ⌝ }
     ensures { λ a. ⌜ Expands (net-at (now (file .entry)) (now (offs .entry))) (length (now (offs .entry))) (now (work .entry)) (now (work .exit)) count (slot (now (work .entry)) i) a ⌝ }
 {
@@ -648,7 +671,7 @@ fn expand(file: &[u8], offs: &[usize], work: &mut [u8], i: usize, count: usize) 
     let mut n = count;
     let mut b: usize = 0;
     while b < 256 {
-        if fresh(file, offs, b as u8) {
+        if news[b] != 0 {
             let t = try_byte(file, offs, work, s, regs, n, b as u8);
             if t.answer != 0 {
                 return t;
@@ -664,8 +687,8 @@ fn expand(file: &[u8], offs: &[usize], work: &mut [u8], i: usize, count: usize) 
 }
 
 // All situations, from slot 0 on.
-pub fn explore(file: &[u8], offs: &[usize], work: &mut [u8]) -> Tried
-    requires { ⌜ Formed (now file) (now offs) × (0 < length (now offs)) ⌝ }
+pub fn explore(file: &[u8], offs: &[usize], news: &[u8], work: &mut [u8]) -> Tried
+    requires { ⌜ Formed (now file) (now offs) × ((0 < length (now offs)) × Told (net-at (now file) (now offs)) (length (now offs)) (now news)) ⌝ }
     requires { ⌜ 65536 ≤ length (now work) ⌝ }
     ensures { λ a. ⌜ Explores (net-at (now (file .entry)) (now (offs .entry))) (length (now (offs .entry))) (now (work .entry)) (now (work .exit)) a ⌝ }
 {
@@ -683,7 +706,7 @@ pub fn explore(file: &[u8], offs: &[usize], work: &mut [u8]) -> Tried
     let mut count: usize = 1;
     let mut i: usize = 0;
     while i < count {
-        let u = expand(file, offs, work, i, count);
+        let u = expand(file, offs, news, work, i, count);
         if u.answer != 0 {
             return u;
         }

@@ -8,7 +8,7 @@ use Rattle.build.proofs.emit_sit.Statement.{statement}
 use Rattle.build.proofs.emit_sit.Tie as tie
 
 load-requires : tie.Need-load-requires
-load-requires c κs = (omega (arith, c .before .before .before .before .pre .1 .0 .0 .kept .room, c .before .before .before .before .pre .1 .0 .0 .kept .most, c .before .before .before .before .pre .1 .0 .1), c .before .before .before .before .pre .1 .0 .0 .kept .holds _ (c .before .before .before .before .pre .1 .0 .1) .few)
+load-requires c κs = (omega (arith, c .before .before .before .before .before .pre .1 .0 .0 .kept .room, c .before .before .before .before .before .pre .1 .0 .0 .kept .most, c .before .before .before .before .before .pre .1 .0 .1), c .before .before .before .before .before .pre .1 .0 .0 .kept .holds _ (c .before .before .before .before .before .pre .1 .0 .1) .few)
 
 mul-regs : tie.Need-mul-regs
 mul-regs c = search needs
@@ -20,7 +20,7 @@ shared-slice-read-regs : tie.Need-shared-slice-read-regs
 shared-slice-read-regs c = search needs
 
 ending-of-requires : tie.Need-ending-of-requires
-ending-of-requires c κs = (c .before .before .before .before .before .before .pre .0, loaded-fit _ _ _ _ (c .before .before .before .before .before .before .pre .1 .0 .0 .kept .holds _ (c .before .before .before .before .before .before .pre .1 .0 .1)) (c .before .load .ensures .0) (c .before .load .ensures .1))
+ending-of-requires c κs = (c .before .before .before .before .before .before .before .pre .0 .0, loaded-fit _ _ _ _ (c .before .before .before .before .before .before .before .pre .1 .0 .0 .kept .holds _ (c .before .before .before .before .before .before .before .pre .1 .0 .1)) (c .before .load .ensures .0) (c .before .load .ensures .1))
 
 emit-requires : tie.Need-emit-requires
 emit-requires c κs = search needs
@@ -32,7 +32,7 @@ emit-fields-requires : tie.Need-emit-fields-requires
 emit-fields-requires c κs = search needs
 
 emit-rows-requires : tie.Need-emit-rows-requires
-emit-rows-requires c κs = (c .before .before .before .before .before .before .before .before .before .before .before .before .before .before .before .before .before .before .before .before .pre .0, (given _ _ _ _ _ (c .before .before .before .before .before .before .before .before .before .before .before .before .before .before .before .before .before .before .before .before .pre .1 .0 .0) (c .before .before .before .before .before .before .before .before .before .before .before .before .before .before .before .before .before .before .before .before .pre .1 .0 .1) _ (c .before .before .before .before .before .before .before .before .before .before .before .before .before .before .before .load .ensures .0) (c .before .before .before .before .before .before .before .before .before .before .before .before .before .before .before .load .ensures .1), omega (arith, c .before .before .before .before .before .before .before .before .before .before .before .before .before .before .before .before .before .before .before .before .pre .1 .1, c .before .before .before .before .before .before .before .before .before .before .before .emit .ensures .end, c .before .before .before .before .before .before .before .emit2 .ensures .end, c .before .before .before .emit-fields .ensures .1)))
+emit-rows-requires c κs = (c .before .before .before .before .before .before .before .before .before .before .before .before .before .before .before .before .before .before .before .before .before .pre .0, (given _ _ _ _ _ (c .before .before .before .before .before .before .before .before .before .before .before .before .before .before .before .before .before .before .before .before .before .pre .1 .0 .0) (c .before .before .before .before .before .before .before .before .before .before .before .before .before .before .before .before .before .before .before .before .before .pre .1 .0 .1) _ (c .before .before .before .before .before .before .before .before .before .before .before .before .before .before .before .load .ensures .0) (c .before .before .before .before .before .before .before .before .before .before .before .before .before .before .before .load .ensures .1), omega (arith, c .before .before .before .before .before .before .before .before .before .before .before .before .before .before .before .before .before .before .before .before .before .pre .1 .1, c .before .before .before .before .before .before .before .before .before .before .before .emit .ensures .end, c .before .before .before .before .before .before .before .emit2 .ensures .end, c .before .before .before .emit-fields .ensures .1)))
 
 same-length : tie.Need-same-length
 same-length c = search needs

@@ -19,39 +19,36 @@ use Rattle.explore.proofs.expand.Statement.{statement}
 use Rattle.explore.proofs.expand.Tie as tie
 
 abbrev Inv-loop : tie.InvT-loop
-Inv-loop file offs work₀ i count s regs n₀ b₀ work n b = (b ≤ 256) × ((length work ≡ length work₀) × (Kept (length offs) work n × (slots work 0 n ≡ once same-situation (slots work₀ 0 count) (map (λ b. next (net-at file offs) b (threads-of s)) (bytes 0 b)))))
+Inv-loop file offs news work₀ i count s regs n₀ b₀ work n b = (b ≤ 256) × ((length work ≡ length work₀) × (Kept (length offs) work n × (slots work 0 n ≡ once same-situation (slots work₀ 0 count) (map (λ b. next (net-at file offs) b (threads-of s)) (bytes 0 b)))))
 
 abbrev μ-loop : tie.MeasureT-loop
-μ-loop file offs work₀ i count s regs n₀ b₀ work n b = 256 - b
+μ-loop file offs news work₀ i count s regs n₀ b₀ work n b = 256 - b
 
 load-requires : tie.Need-load-requires Inv-loop μ-loop
-load-requires c κs = (omega (arith, c .before .before .before .before .pre .1 .0 .room, c .before .before .before .before .pre .1 .0 .most, c .before .before .before .before .pre .1 .1), c .before .before .before .before .pre .1 .0 .holds _ (c .before .before .before .before .pre .1 .1) .few)
+load-requires c κs = (omega (arith, c .before .before .before .before .before .pre .1 .0 .room, c .before .before .before .before .before .pre .1 .0 .most, c .before .before .before .before .before .pre .1 .1), c .before .before .before .before .before .pre .1 .0 .holds _ (c .before .before .before .before .before .pre .1 .1) .few)
 
 mul-regs : tie.Need-mul-regs Inv-loop μ-loop
-mul-regs c = omega (arith, c .before .before .before .before .before .pre .1 .0 .most, c .before .before .before .before .before .pre .1 .1)
+mul-regs c = omega (arith, c .before .before .before .before .before .before .pre .1 .0 .most, c .before .before .before .before .before .before .pre .1 .1)
 
 add-regs : tie.Need-add-regs Inv-loop μ-loop
-add-regs c = omega (arith, c .before .before .before .before .before .pre .1 .0 .most, c .before .before .before .before .before .pre .1 .1)
+add-regs c = omega (arith, c .before .before .before .before .before .before .pre .1 .0 .most, c .before .before .before .before .before .before .pre .1 .1)
 
 slice-read-regs : tie.Need-slice-read-regs Inv-loop μ-loop
-slice-read-regs c = omega (arith, c .before .before .before .before .before .before .pre .1 .0 .room, c .before .before .before .before .before .before .pre .1 .0 .most, c .before .before .before .before .before .before .pre .1 .1)
+slice-read-regs c = omega (arith, c .before .before .before .before .before .before .before .pre .1 .0 .room, c .before .before .before .before .before .before .before .pre .1 .0 .most, c .before .before .before .before .before .before .before .pre .1 .1)
 
 loop-holds : tie.Need-loop-holds Inv-loop μ-loop
-loop-holds c = (omega arith, (refl, (c .before .before .before .before .before .before .pre .1 .0, once-none _ _)))
+loop-holds c = (omega arith, (refl, (c .before .before .before .before .before .before .before .pre .1 .0, once-none _ _)))
 
-cast-fresh : tie.Need-cast-fresh Inv-loop μ-loop
-cast-fresh c = omega arith
-
-fresh-requires : tie.Need-fresh-requires Inv-loop μ-loop
-fresh-requires c κs = c .before .before .before .before .before .before .before .before .pre .0
+shared-slice-read-if1 : tie.Need-shared-slice-read-if1 Inv-loop μ-loop
+shared-slice-read-if1 c = omega (arith, c .before .before .before .before .before .before .before .before .before .before .pre .0 .1 .size)
 
 cast-try-byte : tie.Need-cast-try-byte Inv-loop μ-loop
 cast-try-byte c = omega arith
 
 try-byte-requires : tie.Need-try-byte-requires Inv-loop μ-loop
 try-byte-requires c κs =
-    let h = c .before .before .before .before .before .before .before .before .before .before .before .pre .1 .0 .holds _ (c .before .before .before .before .before .before .before .before .before .before .before .pre .1 .1) in
-    (c .before .before .before .before .before .before .before .before .before .before .before .pre .0, (c .before .before .before .before .loop .inv .1 .1 .0, (loaded-fit _ _ _ _ h (c .before .before .before .before .before .before .load .ensures .0) (c .before .before .before .before .before .before .load .ensures .1), loaded-count _ _ _ _ h (c .before .before .before .before .before .before .load .ensures .1))))
+    let h = c .before .before .before .before .before .before .before .before .before .before .before .before .pre .1 .0 .holds _ (c .before .before .before .before .before .before .before .before .before .before .before .before .pre .1 .1) in
+    (c .before .before .before .before .before .before .before .before .before .before .before .before .pre .0 .0, (c .before .before .before .before .loop .inv .1 .1 .0, (loaded-fit _ _ _ _ h (c .before .before .before .before .before .before .load .ensures .0) (c .before .before .before .before .before .before .load .ensures .1), loaded-count _ _ _ _ h (c .before .before .before .before .before .before .load .ensures .1))))
 
 same-length : tie.Need-same-length Inv-loop μ-loop
 same-length c = c .before .before .before .before .try-byte .ensures .size ∙ c .before .before .before .before .before .before .before .before .before .loop .inv .1 .0
@@ -67,12 +64,12 @@ loop-less c = omega arith
 
 loop-again : tie.Need-loop-again Inv-loop μ-loop
 loop-again c =
-    let h = c .before .before .before .before .before .before .before .before .before .before .pre .1 .0 .holds _ (c .before .before .before .before .before .before .before .before .before .before .pre .1 .1) in
+    let h = c .before .before .before .before .before .before .before .before .before .before .before .pre .1 .0 .holds _ (c .before .before .before .before .before .before .before .before .before .before .before .pre .1 .1) in
     let fit = loaded-fit _ _ _ _ h (c .before .before .before .before .before .load .ensures .0) (c .before .before .before .before .before .load .ensures .1) in (
       omega arith,
       ⊎-elim
-          (λ w. rw (w .7, w .8) (w .2 .ensures .size ∙ c .before .before .before .loop .inv .1 .0, expand-on _ _ (c .before .before .before .before .before .before .before .before .before .before .args .work .now) _ _ _ _ _ _ (c .before .before .before .before .before .load .ensures .1) _ _ (c .before .before .before .loop .inv .1 .0) (c .before .before .before .loop .inv .1 .1 .1) (w .2 .ensures) (w .6 .left)))
-          (λ w. rw (w .1, w .2) (c .before .before .before .loop .inv .1 .0, (c .before .before .before .loop .inv .1 .1 .0, c .before .before .before .loop .inv .1 .1 .1 ∙ sym (skipped (c .before .before .before .before .before .before .before .before .before .before .pre .0) _ (c .before .fresh .ensures (w .0 .left)) _ (fit .below) _))))
+          (λ w. rw (w .7, w .8) (w .2 .ensures .size ∙ c .before .before .before .loop .inv .1 .0, expand-on _ _ (c .before .before .before .before .before .before .before .before .before .before .before .args .work .now) _ _ _ _ _ _ (c .before .before .before .before .before .load .ensures .1) _ _ (c .before .before .before .loop .inv .1 .0) (c .before .before .before .loop .inv .1 .1 .1) (w .2 .ensures) (w .6 .left)))
+          (λ w. rw (w .1, w .2) (c .before .before .before .loop .inv .1 .0, (c .before .before .before .loop .inv .1 .1 .0, c .before .before .before .loop .inv .1 .1 .1 ∙ sym (skipped (c .before .before .before .before .before .before .before .before .before .before .before .pre .0 .0) _ (c .before .before .before .before .before .before .before .before .before .before .before .pre .0 .1 .old (c .before .before .before .loop .b) (omega arith) (w .0 .left)) _ (fit .below) _))))
           (c .if1 .came),
     )
 
@@ -93,8 +90,7 @@ expand-spec =
     add-regs
     slice-read-regs
     loop-holds
-    cast-fresh
-    fresh-requires
+    shared-slice-read-if1
     cast-try-byte
     try-byte-requires
     same-length

@@ -12,13 +12,13 @@ use Rattle.explore.proofs.explore.Statement.{statement}
 use Rattle.explore.proofs.explore.Tie as tie
 
 abbrev Inv-loop : tie.InvT-loop
-Inv-loop file offs work₀ k count₀ i₀ work count i = (i ≤ count) × ((length work ≡ length work₀) × (Kept (length offs) work count × (slots work 0 count ≡ first (net-at file offs) i)))
+Inv-loop file offs news work₀ k count₀ i₀ work count i = (i ≤ count) × ((length work ≡ length work₀) × (Kept (length offs) work count × (slots work 0 count ≡ first (net-at file offs) i)))
 
 abbrev μ-loop : tie.MeasureT-loop
-μ-loop file offs work₀ k count₀ i₀ work count i = 96 - i
+μ-loop file offs news work₀ k count₀ i₀ work count i = 96 - i
 
 begin-of-requires : tie.Need-begin-of-requires Inv-loop μ-loop
-begin-of-requires c κs = (c .before .before .before .pre .0 .0, c .before .before .before .pre .0 .1)
+begin-of-requires c κs = (c .before .before .before .before .pre .0 .0, c .before .before .before .before .pre .0 .1 .0)
 
 returns : tie.Need-returns Inv-loop μ-loop
 returns c = start-over _ _ _ _ (c .before .begin-of .ensures) (c .if1 .taken)
@@ -27,13 +27,13 @@ cast-store : tie.Need-cast-store Inv-loop μ-loop
 cast-store c = omega (arith, c .before .before .before .before .begin-of .ensures .is .few (c .before .before .before .if1 .left))
 
 store-requires : tie.Need-store-requires Inv-loop μ-loop
-store-requires c κs = (c .before .before .before .before .begin-of .ensures .is .fit .few, omega (arith, c .before .before .before .before .before .before .before .before .pre .1))
+store-requires c κs = (c .before .before .before .before .begin-of .ensures .is .fit .few, omega (arith, c .before .before .before .before .before .before .before .before .before .pre .1))
 
 loop-holds : tie.Need-loop-holds Inv-loop μ-loop
-loop-holds c = (omega arith, (refl, (start-kept _ _ _ _ (c .before .before .before .before .before .before .before .begin-of .ensures) (c .before .before .before .before .before .before .if1 .left) (c .before .before .before .before .before .before .before .before .before .before .before .pre .1) _ (c .before .before .store .ensures), start-slots _ _ _ _ (c .before .before .before .before .before .before .before .begin-of .ensures) (c .before .before .before .before .before .before .if1 .left) (c .before .before .before .before .before .before .before .before .before .before .before .pre .1) _ (c .before .before .store .ensures))))
+loop-holds c = (omega arith, (refl, (start-kept _ _ _ _ (c .before .before .before .before .before .before .before .begin-of .ensures) (c .before .before .before .before .before .before .if1 .left) (c .before .before .before .before .before .before .before .before .before .before .before .before .pre .1) _ (c .before .before .store .ensures), start-slots _ _ _ _ (c .before .before .before .before .before .before .before .begin-of .ensures) (c .before .before .before .before .before .before .if1 .left) (c .before .before .before .before .before .before .before .before .before .before .before .before .pre .1) _ (c .before .before .store .ensures))))
 
 expand-requires : tie.Need-expand-requires Inv-loop μ-loop
-expand-requires c κs = (c .before .before .before .before .before .before .before .before .before .before .before .before .before .before .pre .0 .0, (c .before .before .loop .inv .1 .1 .0, omega arith))
+expand-requires c κs = ((c .before .before .before .before .before .before .before .before .before .before .before .before .before .before .before .pre .0 .0, c .before .before .before .before .before .before .before .before .before .before .before .before .before .before .before .pre .0 .1 .1), (c .before .before .loop .inv .1 .1 .0, omega arith))
 
 same-length : tie.Need-same-length Inv-loop μ-loop
 same-length c = c .before .before .before .before .expand .ensures .size ∙ c .before .before .before .before .before .before .before .loop .inv .1 .0 ∙ c .before .before .before .before .before .before .before .before .before .before .store .ensures .size
@@ -49,7 +49,7 @@ loop-less c = omega (arith, c .before .before .before .before .before .before .b
 
 loop-again : tie.Need-loop-again Inv-loop μ-loop
 loop-again c =
-    let q = explore-on _ _ (c .before .before .before .before .before .before .before .before .before .before .before .before .before .before .before .before .before .before .before .args .work .now) _ _ _ _ _ (c .before .before .before .before .before .before .before .loop .inv .1 .0 ∙ c .before .before .before .before .before .before .before .before .before .before .store .ensures .size) (c .before .before .before .before .before .before .before .loop .inv .1 .1 .1) (omega arith) (c .before .before .before .before .expand .ensures) (c .if2 .left) in
+    let q = explore-on _ _ (c .before .before .before .before .before .before .before .before .before .before .before .before .before .before .before .before .before .before .before .before .args .work .now) _ _ _ _ _ (c .before .before .before .before .before .before .before .loop .inv .1 .0 ∙ c .before .before .before .before .before .before .before .before .before .before .store .ensures .size) (c .before .before .before .before .before .before .before .loop .inv .1 .1 .1) (omega arith) (c .before .before .before .before .expand .ensures) (c .if2 .left) in
     (omega (arith, q .1 .1), (c .before .before .before .before .expand .ensures .size ∙ c .before .before .before .before .before .before .before .loop .inv .1 .0, (q .0, q .1 .0)))
 
 same-length-2 : tie.Need-same-length-2 Inv-loop μ-loop
