@@ -27,7 +27,7 @@ pub enum Read {
 }
 
 // The measures of one record.
-pub fn one(width: usize, tags: u8) -> Sum
+fn one(width: usize, tags: u8) -> Sum
     ensures { λ r. ⌜ r ≡ record { size = 1; width = width; tags = tags } ⌝ }
 {
     Sum {
@@ -38,14 +38,14 @@ pub fn one(width: usize, tags: u8) -> Sum
 }
 
 // The larger of two.
-pub fn larger(a: u8, b: u8) -> u8
+fn larger(a: u8, b: u8) -> u8
     ensures { λ r. ⌜ r ≡ max a b ⌝ }
 {
     if a < b { b } else { a }
 }
 
 // The measures of a sequence.
-pub fn seq_sum(a: Sum, b: Sum) -> Sum
+fn seq_sum(a: Sum, b: Sum) -> Sum
     requires { ⌜ (a .size + b .size < 65536) × (a .width + b .width < 65536) ⌝ }
     ensures { λ r. ⌜ r ≡ seqSum a b ⌝ }
 {
@@ -57,7 +57,7 @@ pub fn seq_sum(a: Sum, b: Sum) -> Sum
 }
 
 // The measures of two alternatives and their FORK.
-pub fn alt_sum(a: Sum, b: Sum) -> Sum
+fn alt_sum(a: Sum, b: Sum) -> Sum
     requires { ⌜ (a .size + b .size < 65536) × (a .width + b .width < 65536) ⌝ }
     ensures { λ r. ⌜ r ≡ altSum a b ⌝ }
 {
@@ -69,7 +69,7 @@ pub fn alt_sum(a: Sum, b: Sum) -> Sum
 }
 
 // The measures of a repeated atom and its FORK.
-pub fn rep_sum(a: Sum) -> Sum
+fn rep_sum(a: Sum) -> Sum
     requires { ⌜ (a .size < 65536) × (a .width < 65536) ⌝ }
     ensures { λ r. ⌜ r ≡ repSum a ⌝ }
 {
@@ -80,7 +80,7 @@ pub fn rep_sum(a: Sum) -> Sum
     }
 }
 
-// The set whose `[` stands there.
+// The set whose `[` stands there. Its caller has seen the `[`.
 pub fn set(s: &[u8], at: usize) -> Read
     requires { ⌜ at < length (now s) ⌝ }
     ensures { λ r. ⌜ r ≡ measured (setAt (now (s .entry)) at) ⌝ }
@@ -95,7 +95,7 @@ pub fn set(s: &[u8], at: usize) -> Read
 }
 
 // One atom that is no group.
-pub fn lone(s: &[u8], at: usize) -> Read
+fn lone(s: &[u8], at: usize) -> Read
     requires { ⌜ at ≤ length (now s) ⌝ }
     ensures { λ r. ⌜ r ≡ measured (single (now (s .entry)) at) ⌝ }
 {
@@ -139,7 +139,8 @@ pub fn lone(s: &[u8], at: usize) -> Read
     }
 }
 
-// Alternatives from that place on, with that many groups open.
+// Alternatives from that place on, with that many groups open. That the text has at most 255 bytes `pattern` has seen; that the place
+// lies in it and at most 16 groups are open, each of the four functions shows to the next.
 pub fn alternatives(s: &[u8], at: usize, depth: usize) -> Read
     requires { ⌜ (at ≤ length (now s)) × (depth ≤ 16) × (length (now s) ≤ 255) ⌝ }
     ensures { λ r. ⌜ r ≡ measured (read (now (s .entry)) alts depth at) ⌝ }
@@ -165,7 +166,7 @@ pub fn alternatives(s: &[u8], at: usize, depth: usize) -> Read
     }
 }
 
-// A sequence.
+// A sequence. What it asks `alternatives` shows.
 pub fn sequence(s: &[u8], at: usize, depth: usize) -> Read
     requires { ⌜ (at ≤ length (now s)) × (depth ≤ 16) × (length (now s) ≤ 255) ⌝ }
     ensures { λ r. ⌜ r ≡ measured (read (now (s .entry)) seq depth at) ⌝ }
@@ -199,7 +200,7 @@ pub fn sequence(s: &[u8], at: usize, depth: usize) -> Read
     }
 }
 
-// An atom, and perhaps one of `* + ?`.
+// An atom, and perhaps one of `* + ?`. What it asks `sequence` shows.
 pub fn repeated(s: &[u8], at: usize, depth: usize) -> Read
     requires { ⌜ (at ≤ length (now s)) × (depth ≤ 16) × (length (now s) ≤ 255) ⌝ }
     ensures { λ r. ⌜ r ≡ measured (read (now (s .entry)) piece depth at) ⌝ }
@@ -218,7 +219,7 @@ pub fn repeated(s: &[u8], at: usize, depth: usize) -> Read
     one
 }
 
-// An atom: a group, or one that is none.
+// An atom: a group, or one that is none. What it asks `repeated` shows.
 pub fn atomic(s: &[u8], at: usize, depth: usize) -> Read
     requires { ⌜ (at ≤ length (now s)) × (depth ≤ 16) × (length (now s) ≤ 255) ⌝ }
     ensures { λ r. ⌜ r ≡ measured (read (now (s .entry)) atom depth at) ⌝ }

@@ -46,7 +46,7 @@ const WORDS: [u8; 108] =
     *b":alnum:]\0:alpha:]\0:blank:]\0:cntrl:]\0:digit:]\0:graph:]\0:lower:]\0:print:]\0:punct:]\0:space:]\0:upper:]\0:xdigit:]";
 
 // Byte t of the word of class k.
-pub fn word_byte(k: usize, t: usize) -> u8
+fn word_byte(k: usize, t: usize) -> u8
     requires { ⌜ (k < 12) × (t < 9) ⌝ }
     ensures { λ r. ⌜ r ≡ getD (word k) t 0 ⌝ }
 {
@@ -54,7 +54,7 @@ pub fn word_byte(k: usize, t: usize) -> u8
 }
 
 // Only `xdigit` has six letters.
-pub fn word_len(k: usize) -> usize
+fn word_len(k: usize) -> usize
     requires { ⌜ k < 12 ⌝ }
     ensures { λ r. ⌜ r ≡ length (word k) ⌝ }
 {
@@ -62,7 +62,7 @@ pub fn word_len(k: usize) -> usize
 }
 
 // The bytes w against the word of class k.
-pub fn compare(w: &[u8], k: usize) -> Word
+fn compare(w: &[u8], k: usize) -> Word
     requires { ⌜ k < 12 ⌝ }
     ensures { λ r. ⌜ told r ≡ against (now (w .entry)) (word k) k ⌝ }
 {
@@ -84,7 +84,7 @@ pub fn compare(w: &[u8], k: usize) -> Word
 }
 
 // The bytes w against the words of all classes.
-pub fn find(w: &[u8]) -> Word
+fn find(w: &[u8]) -> Word
     ensures { λ r. ⌜ told r ≡ seek (now (w .entry)) names 0 ⌝ }
 {
     let mut k = 0usize;
@@ -102,7 +102,7 @@ pub fn find(w: &[u8]) -> Word
 }
 
 // An item begins with the byte c at i.
-pub fn begins(s: &[u8], i: usize, c: u8) -> Stand
+fn begins(s: &[u8], i: usize, c: u8) -> Stand
     requires { ⌜ i < length (now s) ⌝ }
     ensures { λ r. ⌜ Stepped (now (s .entry)) i (item c) r ⌝ }
 {
@@ -125,7 +125,7 @@ pub fn begins(s: &[u8], i: usize, c: u8) -> Stand
 }
 
 // The set ends with the byte c at i, or an item begins.
-pub fn closes(s: &[u8], i: usize, c: u8) -> Stand
+fn closes(s: &[u8], i: usize, c: u8) -> Stand
     requires { ⌜ i < length (now s) ⌝ }
     ensures { λ r. ⌜ Stepped (now (s .entry)) i (ends c) r ⌝ }
 {
@@ -136,7 +136,7 @@ pub fn closes(s: &[u8], i: usize, c: u8) -> Stand
 }
 
 // A span from a to d.
-pub fn reaches(s: &[u8], i: usize, a: u8, d: u8) -> Stand
+fn reaches(s: &[u8], i: usize, a: u8, d: u8) -> Stand
     requires { ⌜ i < length (now s) ⌝ }
     ensures { λ r. ⌜ Stepped (now (s .entry)) i (upto a d) r ⌝ }
 {
@@ -147,7 +147,7 @@ pub fn reaches(s: &[u8], i: usize, a: u8, d: u8) -> Stand
 }
 
 // What follows a `-`: `[ ] - ^` stand for themselves only after `\`.
-pub fn dashes(s: &[u8], i: usize, a: u8, c: u8) -> Stand
+fn dashes(s: &[u8], i: usize, a: u8, c: u8) -> Stand
     requires { ⌜ i < length (now s) ⌝ }
     ensures { λ r. ⌜ Stepped (now (s .entry)) i (setOn (steps.dash a) c) r ⌝ }
 {
@@ -170,7 +170,7 @@ pub fn dashes(s: &[u8], i: usize, a: u8, c: u8) -> Stand
 }
 
 // The name that began at from goes on with the byte at i.
-pub fn names_on(s: &[u8], from: usize, i: usize) -> Stand
+fn names_on(s: &[u8], from: usize, i: usize) -> Stand
     requires { ⌜ (i < length (now s)) × (from ≤ i) ⌝ }
     ensures { λ r. ⌜ Stepped (now (s .entry)) i (setOn (stands (now (s .entry)) i (Stand.Name from)) (getD (now (s .entry)) i 0)) r ⌝ }
 {
@@ -184,7 +184,7 @@ pub fn names_on(s: &[u8], from: usize, i: usize) -> Stand
 }
 
 // The byte at i leads on.
-pub fn step_on(s: &[u8], i: usize, st: Stand) -> Stand
+fn step_on(s: &[u8], i: usize, st: Stand) -> Stand
     requires { ⌜ (i < length (now s)) × Sound i st ⌝ }
     ensures { λ r. ⌜ Stepped (now (s .entry)) i (setOn (stands (now (s .entry)) i st) (getD (now (s .entry)) i 0)) r ⌝ }
 {
@@ -208,7 +208,7 @@ pub fn step_on(s: &[u8], i: usize, st: Stand) -> Stand
 }
 
 // Whether b lies from a to d.
-pub fn between(a: u8, d: u8, b: u8) -> bool
+fn between(a: u8, d: u8, b: u8) -> bool
     ensures { λ r. ⌜ r ≡ lists b (span a d) ⌝ }
 {
     if a <= b {
@@ -218,7 +218,7 @@ pub fn between(a: u8, d: u8, b: u8) -> bool
 }
 
 // The class whose name began at from and ends at i.
-pub fn class_at(s: &[u8], from: usize, i: usize) -> Gain
+fn class_at(s: &[u8], from: usize, i: usize) -> Gain
     requires { ⌜ (i < length (now s)) × (from ≤ i) ⌝ }
     ensures { λ r. ⌜ itemsOf r ≡ gained (stands (now (s .entry)) i (Stand.Name from)) (getD (now (s .entry)) i 0) ⌝ }
 {
@@ -231,7 +231,7 @@ pub fn class_at(s: &[u8], from: usize, i: usize) -> Gain
 }
 
 // The item that the byte at i shows to be complete.
-pub fn item_at(s: &[u8], i: usize, st: Stand) -> Gain
+fn item_at(s: &[u8], i: usize, st: Stand) -> Gain
     requires { ⌜ (i < length (now s)) × Sound i st ⌝ }
     ensures { λ r. ⌜ itemsOf r ≡ gained (stands (now (s .entry)) i st) (getD (now (s .entry)) i 0) ⌝ }
 {
@@ -256,7 +256,7 @@ pub fn item_at(s: &[u8], i: usize, st: Stand) -> Gain
 }
 
 // Whether b is one of the item's bytes.
-pub fn has(x: Gain, b: u8) -> bool
+fn has(x: Gain, b: u8) -> bool
     ensures { λ r. ⌜ r ≡ listed b (itemsOf x) ⌝ }
 {
     match x {
@@ -267,7 +267,7 @@ pub fn has(x: Gain, b: u8) -> bool
 }
 
 // A mark is set, or stays.
-pub fn raise(hit: bool, old: u8) -> u8
+fn raise(hit: bool, old: u8) -> u8
     ensures { λ r. ⌜ r ≡ raised hit old ⌝ }
 {
     if hit {
@@ -277,7 +277,7 @@ pub fn raise(hit: bool, old: u8) -> u8
 }
 
 // The item's bytes are marked, and the other marks stay.
-pub fn mark_item(x: Gain, marks: &mut [u8])
+fn mark_item(x: Gain, marks: &mut [u8])
     requires { ⌜ length (now marks) ≡ 256 ⌝ }
     ensures { λ _. ⌜ ((xs : List Item) → Marks (now (marks .entry)) xs → Marks (now (marks .exit)) (xs ++ itemsOf x)) ⌝ }
 {
@@ -293,7 +293,7 @@ pub fn mark_item(x: Gain, marks: &mut [u8])
 }
 
 // The bytes that the rest of a set lists, from i on, are marked.
-pub fn mark(s: &[u8], i: usize, st: Stand, marks: &mut [u8])
+fn mark(s: &[u8], i: usize, st: Stand, marks: &mut [u8])
     requires { ⌜ (i ≤ length (now s)) × Sound i st × (length (now marks) ≡ 256) ⌝ }
     ensures { λ _. ⌜ ((xs : List Item) → Marks (now (marks .entry)) xs → Listed (now (marks .exit)) (steps.scan (drop i (now (s .entry))) i (stands (now (s .entry)) i st) xs)) ⌝ }
 {
@@ -310,7 +310,7 @@ pub fn mark(s: &[u8], i: usize, st: Stand, marks: &mut [u8])
     }
 }
 
-// The bytes that the set lists whose `[` stands at i are marked.
+// The bytes that the set lists whose `[` stands at i are marked. Its caller has seen the `[` and lends 256 marks.
 pub fn mark_set(s: &[u8], i: usize, marks: &mut [u8])
     requires { ⌜ (i < length (now s)) × Marks (now marks) [] ⌝ }
     ensures { λ _. ⌜ Listed (now (marks .exit)) (boxed (now (s .entry)) i) ⌝ }
@@ -323,7 +323,7 @@ pub fn mark_set(s: &[u8], i: usize, marks: &mut [u8])
 }
 
 // The end of a set from i on.
-pub fn scan(s: &[u8], i: usize, st: Stand) -> Scanned
+fn scan(s: &[u8], i: usize, st: Stand) -> Scanned
     requires { ⌜ (i ≤ length (now s)) × Sound i st ⌝ }
     ensures { λ r. ⌜ ((xs : List Item) → r ≡ seen (steps.scan (drop i (now (s .entry))) i (stands (now (s .entry)) i st) xs)) ⌝ }
 {
@@ -338,7 +338,7 @@ pub fn scan(s: &[u8], i: usize, st: Stand) -> Scanned
     }
 }
 
-// The end of the set whose `[` stands at i.
+// The end of the set whose `[` stands at i. Its caller has seen the `[`.
 pub fn bracket(s: &[u8], i: usize) -> Scanned
     requires { ⌜ i < length (now s) ⌝ }
     ensures { λ r. ⌜ r ≡ seen (boxed (now (s .entry)) i) ⌝ }

@@ -1,6 +1,6 @@
 // Writing a pattern's records: what was measured, written in order with the numbers that follow.
 ghost use mathlib.Core.Path.{_≡_};
-ghost use mathlib.Core.List.{List};
+ghost use mathlib.Core.List.{List, [], _∷_};
 ghost use Prim.Native.Nat.{ℕ, _≤_, _<_, _+_};
 ghost use lib.ListN.{length};
 ghost use lib.Seq.{sets};
@@ -24,34 +24,39 @@ use crate::text::look;
 use crate::text::stops_at;
 
 // Where a piece of that many records starts that stands at n and is followed by f.
-pub fn start_at(size: usize, n: usize, f: usize) -> usize
+fn start_at(size: usize, n: usize, f: usize) -> usize
     ensures { λ r. ⌜ r ≡ startAt size n f ⌝ }
 {
     if size == 0 { f } else { n }
 }
 
-// One record of each kind, from o on; the place after it is handed back.
-pub fn put_fork(out: &mut [u8], o: usize, a: usize, b: usize) -> usize
+// A kind and two numbers, from o on; the place after them is handed back.
+fn put_pair(out: &mut [u8], o: usize, kind: u8, a: usize, b: usize) -> usize
     requires { ⌜ (o + 3 ≤ length (now out)) × (a < 256) × (b < 256) ⌝ }
-    ensures { λ r. ⌜ Wrote (now (out .entry)) (now (out .exit)) o r (rec-bytes (fork a b)) ⌝ }
+    ensures { λ r. ⌜ Wrote (now (out .entry)) (now (out .exit)) o r (kind ∷ a ∷ b ∷ []) ⌝ }
 {
-    out[o] = 19;
+    out[o] = kind;
     out[o + 1] = a as u8;
     out[o + 2] = b as u8;
     o + 3
 }
 
-pub fn put_tag(out: &mut [u8], o: usize, t: usize, next: usize) -> usize
+// One record of each kind, from o on; the place after it is handed back.
+fn put_fork(out: &mut [u8], o: usize, a: usize, b: usize) -> usize
+    requires { ⌜ (o + 3 ≤ length (now out)) × (a < 256) × (b < 256) ⌝ }
+    ensures { λ r. ⌜ Wrote (now (out .entry)) (now (out .exit)) o r (rec-bytes (fork a b)) ⌝ }
+{
+    put_pair(out, o, 19, a, b)
+}
+
+fn put_tag(out: &mut [u8], o: usize, t: usize, next: usize) -> usize
     requires { ⌜ (o + 3 ≤ length (now out)) × (t < 256) × (next < 256) ⌝ }
     ensures { λ r. ⌜ Wrote (now (out .entry)) (now (out .exit)) o r (rec-bytes (tag t next)) ⌝ }
 {
-    out[o] = 20;
-    out[o + 1] = t as u8;
-    out[o + 2] = next as u8;
-    o + 3
+    put_pair(out, o, 20, t, next)
 }
 
-pub fn put_range(out: &mut [u8], o: usize, lo: usize, hi: usize, next: usize) -> usize
+fn put_range(out: &mut [u8], o: usize, lo: usize, hi: usize, next: usize) -> usize
     requires { ⌜ (o + 4 ≤ length (now out)) × (lo < 256) × (hi < 256) × (next < 256) ⌝ }
     ensures { λ r. ⌜ Wrote (now (out .entry)) (now (out .exit)) o r (rec-bytes (range lo hi next)) ⌝ }
 {
@@ -63,7 +68,7 @@ pub fn put_range(out: &mut [u8], o: usize, lo: usize, hi: usize, next: usize) ->
 }
 
 // Whether a set with these marks allows b, after `^` or without it.
-pub fn allows(marks: &[u8], caret: bool, b: usize) -> bool
+fn allows(marks: &[u8], caret: bool, b: usize) -> bool
     requires { ⌜ b < length (now marks) ⌝ }
     ensures { λ r. ⌜ r ≡ shown caret (now (marks .entry)) b ⌝ }
 {
@@ -74,7 +79,7 @@ pub fn allows(marks: &[u8], caret: bool, b: usize) -> bool
 }
 
 // Eight bits of the set's MASK from byte b on, b's lowest.
-pub fn eight(marks: &[u8], caret: bool, b: usize) -> u8
+fn eight(marks: &[u8], caret: bool, b: usize) -> u8
     requires { ⌜ (length (now marks) ≡ 256) × (b + 8 ≤ 256) ⌝ }
     ensures { λ r. ⌜ r ≡ octet (shown caret (now (marks .entry))) 8 b ⌝ }
 {
@@ -92,7 +97,7 @@ pub fn eight(marks: &[u8], caret: bool, b: usize) -> u8
 }
 
 // The record of a set with these marks.
-pub fn put_mask(marks: &[u8], caret: bool, out: &mut [u8], o: usize, next: usize) -> usize
+fn put_mask(marks: &[u8], caret: bool, out: &mut [u8], o: usize, next: usize) -> usize
     requires { ⌜ (length (now marks) ≡ 256) × (o + 34 ≤ length (now out)) × (next < 256) ⌝ }
     ensures { λ r. ⌜ Wrote (now (out .entry)) (now (out .exit)) o r (rec-bytes (mask (octets (shown caret (now (marks .entry))) 32 0) next)) ⌝ }
 {
@@ -107,7 +112,7 @@ pub fn put_mask(marks: &[u8], caret: bool, out: &mut [u8], o: usize, next: usize
 }
 
 // The set whose `[` stands there, or nothing where it is refused.
-pub fn emit_set(s: &[u8], at: usize, out: &mut [u8], o: usize, n: usize, f: usize) -> usize
+fn emit_set(s: &[u8], at: usize, out: &mut [u8], o: usize, n: usize, f: usize) -> usize
     requires { ⌜ (at < length (now s)) × Room (setAt (now s) at) n f o (length (now out)) ⌝ }
     ensures { λ r. ⌜ Wrote (now (out .entry)) (now (out .exit)) o r (coded (setAt (now (s .entry)) at) n f) ⌝ }
 {
@@ -122,7 +127,7 @@ pub fn emit_set(s: &[u8], at: usize, out: &mut [u8], o: usize, n: usize, f: usiz
 }
 
 // One atom that is no group.
-pub fn emit_lone(s: &[u8], at: usize, out: &mut [u8], o: usize, n: usize, f: usize) -> usize
+fn emit_lone(s: &[u8], at: usize, out: &mut [u8], o: usize, n: usize, f: usize) -> usize
     requires { ⌜ (at ≤ length (now s)) × Room (single (now s) at) n f o (length (now out)) ⌝ }
     ensures { λ r. ⌜ Wrote (now (out .entry)) (now (out .exit)) o r (coded (single (now (s .entry)) at) n f) ⌝ }
 {
@@ -156,7 +161,7 @@ pub fn emit_lone(s: &[u8], at: usize, out: &mut [u8], o: usize, n: usize, f: usi
 }
 
 // Alternatives: the first record has number n and stands at o, and f is what follows.
-pub fn emit_alternatives(
+fn emit_alternatives(
     s: &[u8],
     at: usize,
     depth: usize,
@@ -189,7 +194,7 @@ pub fn emit_alternatives(
 }
 
 // A sequence.
-pub fn emit_sequence(
+fn emit_sequence(
     s: &[u8],
     at: usize,
     depth: usize,
@@ -220,7 +225,7 @@ pub fn emit_sequence(
 }
 
 // An atom, and the FORK that repeats it.
-pub fn emit_repeated(
+fn emit_repeated(
     s: &[u8],
     at: usize,
     depth: usize,
@@ -257,7 +262,7 @@ pub fn emit_repeated(
 }
 
 // An atom.
-pub fn emit_atomic(
+fn emit_atomic(
     s: &[u8],
     at: usize,
     depth: usize,
@@ -286,7 +291,7 @@ pub fn emit_atomic(
 }
 
 // The HEAD.
-pub fn put_head(out: &mut [u8], tags: u8, count: usize)
+fn put_head(out: &mut [u8], tags: u8, count: usize)
     requires { ⌜ (4 ≤ length (now out)) × (count < 256) ⌝ }
     ensures { λ _. ⌜ Wrote (now (out .entry)) (now (out .exit)) 0 4 (headOf tags count) ⌝ }
 {
@@ -297,7 +302,7 @@ pub fn put_head(out: &mut [u8], tags: u8, count: usize)
 }
 
 // The last record.
-pub fn put_end(out: &mut [u8], o: usize, answer: u8) -> usize
+fn put_end(out: &mut [u8], o: usize, answer: u8) -> usize
     requires { ⌜ o + 2 ≤ length (now out) ⌝ }
     ensures { λ r. ⌜ Wrote (now (out .entry)) (now (out .exit)) o r (rec-bytes (end answer)) ⌝ }
 {
@@ -306,7 +311,8 @@ pub fn put_end(out: &mut [u8], o: usize, answer: u8) -> usize
     o + 2
 }
 
-// The automaton file of a text that was measured so, where END has that answer.
+// The automaton file of a text that was measured so, where END has that answer. `pattern` has compared the measures with the limits
+// and with the room.
 pub fn put_file(s: &[u8], out: &mut [u8], sum: Sum, answer: u8) -> usize
     requires { ⌜ (length (now s) ≤ 255) × (sum .size < 64) × Room (read (now s) alts 0 0) 0 (sum .size) 4 (length (now out)) × (4 + length (coded (read (now s) alts 0 0) 0 (sum .size)) + 2 ≤ length (now out)) ⌝ }
     ensures { λ r. ⌜ Wrote (now (out .entry)) (now (out .exit)) 0 r (filed (read (now (s .entry)) alts 0 0) (sum .size) (sum .tags) answer) ⌝ }
