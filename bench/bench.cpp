@@ -71,6 +71,17 @@ struct Numbers { // the same cases everywhere
     }
 };
 
+// A feed as it comes: names, units, spaces and digits change from line to line.
+static string mixed_line(Numbers &n) {
+    const char *names[] = {"NET", "GROSS", "TARE"}, *units[] = {"kg", "t", "lb"}, *hex = "0123456789ABCDEF";
+    string line = "TRK-" + n.digits(4 + (int)n.next(3)) + ";" + names[n.next(3)] + ";" + string(n.next(4), ' ');
+    line += n.digits(2 + (int)n.next(4));
+    if (n.next(4)) line += "." + n.digits(1 + (int)n.next(2));
+    line += string(" ") + units[n.next(3)] + ";" + n.digits(2) + ":" + n.digits(2) + ":" + n.digits(2) + ";";
+    line += hex[n.next(16)];
+    return line + hex[n.next(16)];
+}
+
 static vector<Case> cases() {
     Numbers n{20};
     vector<Case> all;
@@ -84,6 +95,11 @@ static vector<Case> cases() {
         for (int i = 0; i < 64; i++)
             c.lines.push_back("TRK-" + n.digits(4) + ";NET;  " + n.digits(5) + "." + n.digits(1) + " kg;06:0" +
                               n.digits(1) + ":1" + n.digits(1) + ";A" + n.digits(1));
+        all.push_back(c);
+        c.name = "feed, mixed lines"; // more of them than a processor learns by heart
+        c.lines.clear();
+        Numbers own{21};
+        for (int i = 0; i < 2048; i++) c.lines.push_back(mixed_line(own));
         all.push_back(c);
     }
     {
@@ -459,8 +475,8 @@ struct Job {
 };
 
 // Interleaved: every job once a round, so that a slow spell of the machine meets them all.
-static void measure(vector<Job> &jobs, int rounds) {
-    for (Job &j : jobs) j.calibrate(50000);
+static void measure(vector<Job> &jobs, int rounds, double goal_ns = 50000) {
+    for (Job &j : jobs) j.calibrate(goal_ns);
     for (int r = 0; r < rounds; r++)
         for (Job &j : jobs) j.round();
 }
@@ -681,7 +697,7 @@ static Sheet bench_builders(const Heavy &h, int rounds, Built &ours) {
     jobs[2].once = [&] {
         sink = plain_build(net.data(), net_len, c.table.data(), c.table.size(), &c.length, &c.situations, &c.registers);
     };
-    measure(jobs, rounds);
+    measure(jobs, rounds, 1e6);
     Sheet sheet{h.name, {}};
     const char *names[] = {"cv_build", "plain Rust", "plain C"};
     const Built *built[] = {&ours, &rust, &c};
