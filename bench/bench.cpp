@@ -1,8 +1,8 @@
 // The bench: ours against its peers, in one process, in interleaved rounds, the least of many rounds for each. An
 // engine's time counts only where it finds what ours finds: every line's match and places are compared first.
 //   bench [--rounds N] [--svg FILE --class TEXT --date TEXT]
-#include "../include/chorvugdan.h"
 #include "bench.h"
+#include "../include/chorvugdan.h"
 #include "plain.h"
 
 #include <malloc.h>
@@ -71,6 +71,17 @@ struct Numbers { // the same cases everywhere
     }
 };
 
+// A feed as it comes: names, units, spaces and digits change from line to line.
+static string mixed_line(Numbers &n) {
+    const char *names[] = {"NET", "GROSS", "TARE"}, *units[] = {"kg", "t", "lb"}, *hex = "0123456789ABCDEF";
+    string line = "TRK-" + n.digits(4 + (int)n.next(3)) + ";" + names[n.next(3)] + ";" + string(n.next(4), ' ');
+    line += n.digits(2 + (int)n.next(4));
+    if (n.next(4)) line += "." + n.digits(1 + (int)n.next(2));
+    line += string(" ") + units[n.next(3)] + ";" + n.digits(2) + ":" + n.digits(2) + ":" + n.digits(2) + ";";
+    line += hex[n.next(16)];
+    return line + hex[n.next(16)];
+}
+
 static vector<Case> cases() {
     Numbers n{20};
     vector<Case> all;
@@ -84,6 +95,11 @@ static vector<Case> cases() {
         for (int i = 0; i < 64; i++)
             c.lines.push_back("TRK-" + n.digits(4) + ";NET;  " + n.digits(5) + "." + n.digits(1) + " kg;06:0" +
                               n.digits(1) + ":1" + n.digits(1) + ";A" + n.digits(1));
+        all.push_back(c);
+        c.name = "feed, mixed lines"; // more of them than a processor learns by heart
+        c.lines.clear();
+        Numbers own{21};
+        for (int i = 0; i < 2048; i++) c.lines.push_back(mixed_line(own));
         all.push_back(c);
     }
     {
@@ -459,8 +475,8 @@ struct Job {
 };
 
 // Interleaved: every job once a round, so that a slow spell of the machine meets them all.
-static void measure(vector<Job> &jobs, int rounds) {
-    for (Job &j : jobs) j.calibrate(50000);
+static void measure(vector<Job> &jobs, int rounds, double goal_ns = 50000) {
+    for (Job &j : jobs) j.calibrate(goal_ns);
     for (int r = 0; r < rounds; r++)
         for (Job &j : jobs) j.round();
 }
@@ -630,6 +646,94 @@ static void print_pairs(const vector<Case> &all, int rounds) {
     }
 }
 
+// ---- the builder against plain Rust's and plain C's ----
+
+struct Heavy {
+    string name, pattern;
+};
+
+// Seven dots behind eight tags need 64 registers; the other side has the situations, and its set of every other byte a
+// row for each byte.
+static string largest() {
+    string every_other;
+    for (int b = 0; b < 256; b += 2) {
+        if (b == '\\' || b == '^') every_other += '\\';
+        every_other += (char)b;
+    }
+    return ".*@0@1@2@3@4@5@6@7.......|........*[" + every_other + "]\1........";
+}
+
+static vector<Heavy> heavy(const Case &feed) {
+    return {{"feed", feed.ours}, {".*a.....", ".*a....."}, {"largest table", largest()}};
+}
+
+struct Built {
+    size_t length = 0, situations = 0, registers = 0;
+    vector<uint8_t> table = vector<uint8_t>(CV_TABLE_MAX);
+    bool same(const Built &as) const {
+        return length == as.length && situations == as.situations && registers == as.registers &&
+               memcmp(table.data(), as.table.data(), length) == 0;
+    }
+};
+
+// One sheet a pattern, its times in microseconds.
+static Sheet bench_builders(const Heavy &h, int rounds, Built &ours) {
+    vector<uint8_t> net(CV_NET_MAX), work(CV_WORK_MIN);
+    size_t place, net_len;
+    Built rust, c;
+    if (cv_pattern(bytes(h.pattern), h.pattern.size(), net.data(), net.size(), &place, &net_len) != CV_OK) {
+        fprintf(stderr, "bench: ours refuses the pattern of '%s'\n", h.name.c_str());
+        exit(1);
+    }
+    vector<Job> jobs(3);
+    jobs[0].once = [&] {
+        sink = cv_build(net.data(), net_len, work.data(), work.size(), ours.table.data(), ours.table.size(),
+                        &ours.length, &ours.situations, &ours.registers);
+    };
+    jobs[1].once = [&] {
+        sink = plain_rust_build(net.data(), net_len, rust.table.data(), rust.table.size(), &rust.length,
+                                &rust.situations, &rust.registers);
+    };
+    jobs[2].once = [&] {
+        sink = plain_build(net.data(), net_len, c.table.data(), c.table.size(), &c.length, &c.situations, &c.registers);
+    };
+    measure(jobs, rounds, 1e6);
+    Sheet sheet{h.name, {}};
+    const char *names[] = {"cv_build", "plain Rust", "plain C"};
+    const Built *built[] = {&ours, &rust, &c};
+    for (size_t i = 0; i < jobs.size(); i++) {
+        Row row;
+        row.engine = names[i];
+        row.why = built[i]->same(ours) ? "" : "another table";
+        row.ns = jobs[i].least / 1000;
+        sheet.rows.push_back(row);
+    }
+    return sheet;
+}
+
+static vector<Sheet> print_builders(const Case &feed, int rounds) {
+    vector<Sheet> sheets;
+    printf("\nbuilding, microseconds\n  %-14s %10s %9s %9s %11s", "pattern", "situations", "registers", "bytes",
+           "cv_build");
+    printf(" %11s %6s %11s %6s\n", "plain Rust", "ratio", "plain C", "ratio");
+    for (const Heavy &h : heavy(feed)) {
+        Built ours;
+        sheets.push_back(bench_builders(h, rounds, ours));
+        const vector<Row> &rows = sheets.back().rows;
+        printf("  %-14s %10zu %9zu %9zu %11.1f", h.name.c_str(), ours.situations, ours.registers, ours.length,
+               rows[0].ns);
+        for (size_t i = 1; i < rows.size(); i++) {
+            if (rows[i].why.empty())
+                printf(" %11.1f %5.1fx", rows[i].ns, rows[0].ns / rows[i].ns);
+            else
+                printf(" %18s", rows[i].why.c_str());
+        }
+        printf("\n");
+        fflush(stdout);
+    }
+    return sheets;
+}
+
 // ---- the picture ----
 
 static string escaped(const string &s) {
@@ -638,49 +742,73 @@ static string escaped(const string &s) {
     return out;
 }
 
-static void draw(const vector<Sheet> &sheets, const string &path, const string &machine, const string &date) {
+// Bars on one logarithmic scale; a bar of no length is `low`.
+struct Panel {
+    string title;
+    double low;
+    vector<Sheet> sheets;
+};
+
+static const int bar = 13, gap = 30, left_edge = 120, width = 560;
+
+static int height_of(const Panel &p) {
+    int height = 24;
+    for (const Sheet &s : p.sheets) height += gap + bar * (int)s.rows.size();
+    return height;
+}
+
+static void draw_row(FILE *f, const Row &r, int y, double low, double scale) {
+    bool ours = r.engine.compare(0, 3, "cv_") == 0;
+    fprintf(f, "<text x=\"%d\" y=\"%d\" text-anchor=\"end\">%s</text>\n", left_edge - 6, y + bar - 4,
+            escaped(r.engine).c_str());
+    if (!r.why.empty()) {
+        fprintf(f, "<text x=\"%d\" y=\"%d\" fill=\"#888\">%s</text>\n", left_edge, y + bar - 4, escaped(r.why).c_str());
+        return;
+    }
+    double len = std::max(1.0, std::log(r.ns / low) * scale);
+    fprintf(f, "<rect x=\"%d\" y=\"%d\" width=\"%.1f\" height=\"%d\" fill=\"%s\"/>\n", left_edge, y + 1, len, bar - 3,
+            ours ? "#c1440e" : "#7d8ca3");
+    fprintf(f, "<text x=\"%.1f\" y=\"%d\">%.*f</text>\n", left_edge + len + 4, y + bar - 4, r.ns < 1000 ? 2 : 0, r.ns);
+}
+
+static void draw_panel(FILE *f, const Panel &p, int y) {
+    double most = 1;
+    for (const Sheet &s : p.sheets)
+        for (const Row &r : s.rows) most = std::max(most, r.ns);
+    const double scale = (width - left_edge - 70) / std::log(most / p.low);
+    fprintf(f, "<text x=\"8\" y=\"%d\" font-size=\"13\">%s</text>\n", y + 16, escaped(p.title).c_str());
+    y += 24;
+    for (const Sheet &s : p.sheets) {
+        y += gap - 8;
+        fprintf(f, "<text x=\"8\" y=\"%d\" font-size=\"11\" font-weight=\"bold\">%s</text>\n", y - 4,
+                escaped(s.name).c_str());
+        for (const Row &r : s.rows) {
+            draw_row(f, r, y, p.low, scale);
+            y += bar;
+        }
+        y += 8;
+    }
+}
+
+static void draw(const vector<Panel> &panels, const string &path, const string &machine, const string &date) {
     FILE *f = fopen(path.c_str(), "w");
     if (!f) {
         perror(path.c_str());
         exit(1);
     }
-    const int bar = 13, gap = 30, left = 120, width = 560;
-    int height = 60;
-    for (const Sheet &s : sheets) height += gap + bar * (int)s.rows.size();
-    double most = 1;
-    for (const Sheet &s : sheets)
-        for (const Row &r : s.rows) most = std::max(most, r.ns);
-    const double low = 0.25,
-                 scale = (width - left - 70) / std::log(most / low); // a bar of no length is a quarter nanosecond
+    int height = 36;
+    for (const Panel &p : panels) height += height_of(p);
     fprintf(f,
             "<svg xmlns=\"http://www.w3.org/2000/svg\" width=\"%d\" height=\"%d\" font-family=\"sans-serif\" "
             "font-size=\"10\">\n",
             width, height);
     fprintf(f, "<rect width=\"100%%\" height=\"100%%\" fill=\"white\"/>\n");
-    fprintf(f, "<text x=\"8\" y=\"16\" font-size=\"13\">Nanoseconds per byte, logarithmic from 0.25; least of many "
-               "rounds</text>\n");
-    fprintf(f, "<text x=\"8\" y=\"31\">%s</text>\n", escaped(date + (machine.empty() ? "" : ", " + machine)).c_str());
-    int y = 42;
-    for (const Sheet &s : sheets) {
-        y += gap - 8;
-        fprintf(f, "<text x=\"8\" y=\"%d\" font-size=\"11\" font-weight=\"bold\">%s</text>\n", y - 4,
-                escaped(s.name).c_str());
-        for (const Row &r : s.rows) {
-            bool ours = r.engine.compare(0, 3, "cv_") == 0;
-            fprintf(f, "<text x=\"%d\" y=\"%d\" text-anchor=\"end\">%s</text>\n", left - 6, y + bar - 4,
-                    escaped(r.engine).c_str());
-            if (r.why.empty()) {
-                double len = std::max(1.0, std::log(r.ns / low) * scale);
-                fprintf(f, "<rect x=\"%d\" y=\"%d\" width=\"%.1f\" height=\"%d\" fill=\"%s\"/>\n", left, y + 1, len,
-                        bar - 3, ours ? "#c1440e" : "#7d8ca3");
-                fprintf(f, "<text x=\"%.1f\" y=\"%d\">%.2f</text>\n", left + len + 4, y + bar - 4, r.ns);
-            } else {
-                fprintf(f, "<text x=\"%d\" y=\"%d\" fill=\"#888\">%s</text>\n", left, y + bar - 4,
-                        escaped(r.why).c_str());
-            }
-            y += bar;
-        }
-        y += 8;
+    fprintf(f, "<text x=\"8\" y=\"16\">Least of many rounds; %s</text>\n",
+            escaped(date + (machine.empty() ? "" : ", " + machine)).c_str());
+    int y = 22;
+    for (const Panel &p : panels) {
+        draw_panel(f, p, y);
+        y += height_of(p);
     }
     fprintf(f, "</svg>\n");
     fclose(f);
@@ -718,6 +846,10 @@ int main(int argc, char **argv) {
         fflush(stdout);
     }
     print_pairs(all, rounds);
-    if (!svg.empty()) draw(sheets, svg, machine, date);
+    vector<Sheet> builders = print_builders(all[0], std::max(5, rounds / 4));
+    if (!svg.empty())
+        draw({{"Nanoseconds per byte, logarithmic from 0.25", 0.25, sheets},
+              {"Building: microseconds, logarithmic from 10", 10, builders}},
+             svg, machine, date);
     return 0;
 }

@@ -22,6 +22,10 @@ void *rust_regex_new(const uint8_t *text, size_t len);
 int rust_regex_match(void *regex, const uint8_t *line, size_t len, int32_t *bounds, size_t groups);
 void rust_regex_free(void *regex);
 
+/* The builder in plain Rust: as cv_build, but for the work memory. */
+uint8_t plain_rust_build(const uint8_t *net, size_t net_len, uint8_t *out, size_t out_len, size_t *length,
+                         size_t *situations, size_t *registers);
+
 #ifdef __cplusplus
 }
 #endif

@@ -3,8 +3,7 @@
 # and when that is possible; the bench says which it has. Give --svg docs/bench.svg to draw the picture.
 set -euo pipefail
 cd "$(dirname "${BASH_SOURCE[0]}")/.."
-archive=target/staticlib/libexport.a
-[ -f "$archive" ] || rt staticlib export >&2
+archive=$(bash bench/archive.sh)
 built=target/bench
 mkdir -p "$built"
 
@@ -46,6 +45,8 @@ if has librust-regex+default-dev && cargo build --quiet --offline --release --ma
   have+=(-DHAVE_RUST_REGEX)
   libraries+=("$built/rust-regex/release/librust_regex.a" -lpthread -ldl)
 fi
+cargo build --quiet --offline --release --manifest-path bench/plain-builder/Cargo.toml --target-dir "$built/plain-builder"
+libraries+=("$built/plain-builder/release/libplain_builder.a" -lpthread -ldl)
 g++ -std=c++17 -O3 -Wall -Wextra "${have[@]}" bench/bench.cpp "${objects[@]}" "$archive" "${libraries[@]}" \
   -o "$built/bench"
 kind=$(sed -n 's/^model name[^:]*: *//p' /proc/cpuinfo | head -n 1)
