@@ -9,12 +9,13 @@ use lib.ListN.{length, getD, replicate, length-set}
 use lib.Seq.{getD-set-other}
 use Rattle.net.specs.Rec.{Rec, range, mask, fork, tag, end, Net, rec}
 use Rattle.net.specs.File as file
-use Rattle.net.specs.File.{Every, Legal}
+use Rattle.net.specs.File.{Legal}
+use Rattle.ground.specs.Lists.{Every}
+use Rattle.ground.proofs.Members.{each-has}
 use Rattle.paths.specs.Ways.{Move, Step, by-range, by-mask, by-first, by-second, by-tag, Way, stay, go, Held, empty-handed, act, held, Answer}
 use Rattle.paths.specs.Search.{Thread}
 use Rattle.paths.specs.Situation.{ending, first-end}
 use Rattle.paths.specs.Registers.{Tags, Key, holds, renamed}
-use Rattle.paths.proofs.Common.{each-has}
 use Rattle.paths.proofs.Laws.{run-answer}
 use Rattle.build.specs.Card.{State, states, need}
 use Rattle.built.specs.Fits.{Fits}

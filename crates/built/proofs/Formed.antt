@@ -16,7 +16,7 @@ use Rattle.explore.specs.Lists.{span}
 use Rattle.card.specs.Table.{put, Rising, Field, FormedSit, FormedSits, Formed}
 use Rattle.build.specs.Card.{State, states, need, most, byte-row, answer-of, field-of, fields-of, sit-of, card-of, tableOf}
 use Rattle.built.specs.Fits.{Fits}
-use Rattle.built.proofs.Common.{position-at, replicate-in}
+use Rattle.built.proofs.Spans.{position-at, replicate-in}
 use Rattle.built.proofs.States.{first-state, next-state, most-bound, most-least}
 use Rattle.built.proofs.Commands.{origins-bound, origins-many, rising, start-commands, start-sets}
 use Rattle.built.proofs.Rows.{rows-upward}

@@ -1,4 +1,4 @@
-pub mod Common
+pub mod Spans
 pub mod States
 pub mod Commands
 pub mod Rows

@@ -15,12 +15,13 @@ use Rattle.card.specs.Table.{Cmd, move, put, Row, Rising, Upward}
 use Rattle.card.specs.Run.{noRow, rowFor}
 use Rattle.explore.specs.Lists.{span}
 use Rattle.build.specs.Card.{same-cmd, alike, both, ahead, joined}
-use Rattle.built.proofs.Common.{and-true, list-eq}
+use Rattle.built.proofs.Spans.{list-eq}
+use Rattle.ground.proofs.Tests.{both-yes}
 
 -- ---- rows that are alike
 
 cmd-eq : (a b : Cmd) → same-cmd a b ≡ true → a ≡ b
-cmd-eq (move a b) (move c d) e = let t = and-true (eqb a c) (eqb b d) e in ap₂ (λ x y. move x y) (eqb-true a c (t .0)) (eqb-true b d (t .1))
+cmd-eq (move a b) (move c d) e = let t = both-yes (eqb a c) (eqb b d) e in ap₂ (λ x y. move x y) (eqb-true a c (t .0)) (eqb-true b d (t .1))
 cmd-eq (move a b) (put c) e = let z : _≡_ {A = ℕ} 0 1 = cc in absurd (omega arith)
 cmd-eq (put a) (move c d) e = let z : _≡_ {A = ℕ} 0 1 = cc in absurd (omega arith)
 cmd-eq (put a) (put c) e = ap put (eqb-true a c e)
@@ -32,7 +33,7 @@ pub record Same (p q : Row) : Type 0 where
 
 alike-same : (p q : Row) → alike p q ≡ true → Same p q
 alike-same p q e =
-    let t = and-true (eqb (p .next) (q .next)) (same-list same-cmd (p .cmds) (q .cmds)) e in
+    let t = both-yes (eqb (p .next) (q .next)) (same-list same-cmd (p .cmds) (q .cmds)) e in
     record { leads = eqb-true (p .next) (q .next) (t .0); does = list-eq same-cmd cmd-eq (p .cmds) (q .cmds) (t .1) }
 
 same-as : {p q : Row} → p ≡ q → Same p q

@@ -17,17 +17,18 @@ use Rattle.paths.specs.Search.{Thread}
 use Rattle.paths.specs.Situation.{close}
 use Rattle.paths.specs.Registers.{Tags, no-tags, tagged, stands, standing, begin, after, Key, held-by, registers, rename, renamed, number, situation, next, origins, fetch, State as Going, feed, run as goes, ready}
 use Rattle.paths.specs.Equal.{same-situation}
-use Rattle.paths.proofs.Common.{getD-mem}
+use Rattle.ground.proofs.Members.{getD-mem}
+use Rattle.ground.specs.Lists.{Bytes}
 use Rattle.paths.proofs.Same.{lifts, lifts-close}
 use Rattle.paths.proofs.Numbers.{hat, held-renamed, registers-held}
 use Rattle.paths.proofs.Next.{as-many-registers}
 use Rattle.paths.proofs.Builder.{situation-test}
 use Rattle.paths.proofs.Run.{run-situation}
-use Rattle.card.specs.Run.{Bank, absent, empties, reg, apply, noSit, rowFor, sit, rowIn, State as Stand, at, arrive, step, run, begun, over, AllBytes}
+use Rattle.card.specs.Run.{Bank, absent, empties, reg, apply, noSit, rowFor, sit, rowIn, State as Stand, at, arrive, step, run, begun, over}
 use Rattle.explore.specs.Lists.{position}
 use Rattle.build.specs.Card.{State, states, need, commands, byte-row, sit-of, card-of, tableOf}
 use Rattle.built.specs.Fits.{Fits}
-use Rattle.built.proofs.Common.{replicate-in, position-at, position-zero}
+use Rattle.built.proofs.Spans.{replicate-in, position-at, position-zero}
 use Rattle.built.proofs.States.{first-state, next-state}
 use Rattle.built.proofs.Commands.{origins-bound, origins-many, fetched, Applied, applies, start-commands}
 use Rattle.built.proofs.Rows.{Same, row-of}
@@ -110,7 +111,7 @@ module _ {tags : ℕ} {A : Net} (fits : Fits tags A) where
 
   -- ---- a line
 
-  bytes-follow : (w : List ℕ) (p : ℕ) (s : Going) (x : Stand) → List·Memᴰ (s .sit) (states A) → AllBytes w → Follows A s x → Follows A (goes A p s w) (run (tableOf tags A) x p w)
+  bytes-follow : (w : List ℕ) (p : ℕ) (s : Going) (x : Stand) → List·Memᴰ (s .sit) (states A) → Bytes w → Follows A s x → Follows A (goes A p s w) (run (tableOf tags A) x p w)
   unfolding goes run feed
   bytes-follow [] p s x m h f = f
   bytes-follow (b ∷ w) p s x m h f =
@@ -196,12 +197,12 @@ module _ {tags : ℕ} {A : Net} (fits : Fits tags A) where
           ∙ ap pos (sym (getD-map (λ k. k .1) (registers (begin A)) i (0, 0) 0 k ∙ at-zero A (getD (registers (begin A)) i (0, 0)) (getD-mem (registers (begin A)) i (0, 0) k)))
 
   -- THE RUN: over any line of bytes it goes with the net's run
-  pub table-follows : (w : List ℕ) → AllBytes w → Follows A (goes A 0 (ready A) w) (over (tableOf tags A) w)
+  pub table-follows : (w : List ℕ) → Bytes w → Follows A (goes A 0 (ready A) w) (over (tableOf tags A) w)
   unfolding ready
   table-follows w h = bytes-follow fits w 0 (ready A) (begun (tableOf tags A)) (subst (λ s. List·Memᴰ s (states A)) (first-situation A) (fits .complete [] tt)) h start-follows
 
   -- so it ends in the situation of the line, with the place of each of its registers
-  pub table-runs : (w : List ℕ) → AllBytes w
+  pub table-runs : (w : List ℕ) → Bytes w
       → (bank : Bank) × (over (tableOf tags A) w ≡ at (position same-situation (situation A w) (states A)) bank)
       × ((i : ℕ) → i < need (situation A w) → reg bank i ≡ pos (getD (goes A 0 (ready A) w .bank) i 0))
   table-runs w h =

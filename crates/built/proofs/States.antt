@@ -12,15 +12,16 @@ use Rattle.paths.specs.Registers.{situation, next}
 use Rattle.paths.specs.Equal.{same-situation}
 use Rattle.paths.specs.Numbering.{numbered}
 use Rattle.paths.specs.Limits.{bytes, all, first, Closes, Over-registers, Over-situations}
-use Rattle.paths.proofs.Common.{Prefix, ≼-trans, ≼-length, mem-getD, getD-mem}
+use Rattle.ground.proofs.Members.{Prefix, ≼-trans, ≼-length, mem-getD, getD-mem}
+use Rattle.ground.specs.Lists.{Bytes}
+use Rattle.ground.proofs.Every.{bytes-more}
 use Rattle.paths.proofs.Next.{situation-next}
 use Rattle.paths.proofs.Exploring.{numbered-≼, numbered-of}
 use Rattle.paths.proofs.Builder.{situation-test, found-first, found-all}
 use Rattle.paths.proofs.Limits.{bytes-below, numbered-zero, first-97, closed-every, one-of-three}
-use Rattle.card.specs.Run.{AllBytes}
 use Rattle.build.specs.Card.{State, states, need, most}
 use Rattle.built.specs.Fits.{Fits}
-use Rattle.built.proofs.Common.{span-bytes, input-of, of-input, bytes-more}
+use Rattle.built.proofs.Spans.{span-bytes, input-of, of-input}
 
 -- ---- the states are document 01's numbered situations
 
@@ -29,7 +30,7 @@ unfolding states
 states-all A = ap (λ B. numbered same-situation B (situation A) 96) (span-bytes 0 256)
 
 -- each is that of some input
-pub state-of : (A : Net) (s : State) → List·Memᴰ s (states A) → (w : List ℕ) × AllBytes w × (situation A w ≡ s)
+pub state-of : (A : Net) (s : State) → List·Memᴰ s (states A) → (w : List ℕ) × Bytes w × (situation A w ≡ s)
 state-of A s m =
     let r = numbered-of same-situation situation-test (bytes 0 256) (next A) (situation A) (situation-next A) 96 (rw (states-all A) at m) in
     (r .0, of-input (r .0) (λ b k. bytes-below 0 256 (r .1 b k)), r .2)

@@ -13,7 +13,7 @@ use Rattle.card.specs.declared.form.Cursor.{Cursor}
 use Rattle.card.specs.declared.form.Went.{Went}
 use Rattle.card.specs.declared.form.Went.the-variants.{On, Bad}
 use Rattle.card.specs.Form.{whole, kindFault, sitStep, rowStep, moveStep, setStep, bodyStep, faultOf, stepForm}
-use Rattle.card.proofs.Common.{by-test}
+use Rattle.ground.proofs.Picks.{by-test}
 
 -- ---- every situation has begun, and the last one has its row to 255
 

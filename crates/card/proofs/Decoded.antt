@@ -16,7 +16,7 @@ use Rattle.card.specs.declared.Order.the-variants.{Move, Put, Stop}
 use Rattle.card.specs.declared.RowItem.{RowItem}
 use Rattle.card.specs.declared.RowItem.the-variants.{Leads, Ends}
 use Rattle.card.specs.Decode.{cmdAt, cmdsAt, afterAt, rowAt, rowsAt, afterRows, sitAt, sitsFrom, tableAt}
-use Rattle.card.proofs.Common.{byte-here, first-here, left-here, later-here}
+use Rattle.ground.proofs.Lists.{byte-here, first-here, left-here, later-here}
 use Rattle.card.proofs.Laws.{cmds-step}
 use Rattle.card.proofs.Rows.{after-step, rows-step}
 use Rattle.card.proofs.Situations.{after-rows-step}

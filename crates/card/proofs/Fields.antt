@@ -12,7 +12,7 @@ use borrow.Author.Tests.{eq-eqb, ne-eqb, eqb-true, eqb-false, leb-true, leb-fals
 use Rattle.ground.specs.Pick.{pick}
 use Rattle.card.specs.Table.{Field}
 use Rattle.card.specs.Form.{fieldOk, fieldsOk}
-use Rattle.card.proofs.Common.{by-test}
+use Rattle.ground.proofs.Picks.{by-test}
 
 module _ (x t answer tags regs : ℕ) where
   Right : Bool → Type 0

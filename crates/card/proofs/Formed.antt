@@ -18,7 +18,8 @@ use Rattle.card.specs.declared.form.Verdict.{Verdict}
 use Rattle.card.specs.declared.form.Verdict.the-variants.{Fine, Fault}
 use Rattle.card.specs.Form.{headAt, begin, formFrom, afterHead, formOf}
 use Rattle.card.specs.FormOk.{FormOk}
-use Rattle.card.proofs.Common.{by-test, one-there, four-there}
+use Rattle.ground.proofs.Picks.{by-test}
+use Rattle.ground.proofs.Lists.{one-there, four-there}
 use Rattle.card.proofs.Decoded.{reads-as}
 use Rattle.card.proofs.Rest.{Rest, closed-rows, rest-of, rest-fine, begin-sane}
 

@@ -14,7 +14,7 @@ use Rattle.card.specs.declared.form.Cursor.{Cursor}
 use Rattle.card.specs.declared.form.Went.{Went}
 use Rattle.card.specs.declared.form.Went.the-variants.{On, Bad}
 use Rattle.card.specs.Form.{kindFault, sitStep, rowStep, moveStep, setStep, bodyStep, faultOf, stepForm}
-use Rattle.card.proofs.Common.{by-test}
+use Rattle.ground.proofs.Picks.{by-test}
 use Rattle.card.proofs.Fields.{fields-told, fields-made}
 use Rattle.card.proofs.Allowed.{Allowed, kind-told, kind-move, kind-set, kind-row, kind-sit, step-sit, step-row, step-move, step-set}
 

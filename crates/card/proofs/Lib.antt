@@ -1,7 +1,6 @@
 pub mod Laws
 pub mod Rows
 pub mod Situations
-pub mod Common
 pub mod Decoded
 pub mod Fields
 pub mod Allowed

@@ -21,7 +21,8 @@ use Rattle.card.specs.declared.form.Went.the-variants.{On, Bad}
 use Rattle.card.specs.declared.form.Verdict.{Verdict}
 use Rattle.card.specs.declared.form.Verdict.the-variants.{Fine, Fault}
 use Rattle.card.specs.Form.{stepForm, begin, whole, endForm, onward, formFrom}
-use Rattle.card.proofs.Common.{lt-or-le, two-there, three-there, four-there, first-here, byte-here, left-here, later-here}
+use Rattle.ground.proofs.Tests.{lt-or-le}
+use Rattle.ground.proofs.Lists.{two-there, three-there, four-there, first-here, byte-here, left-here, later-here}
 use Rattle.card.proofs.Allowed.{whole-told, whole-made}
 use Rattle.card.proofs.Items as items
 use Rattle.card.proofs.Items.{SitHere, RowHere, MoveHere, SetHere, Past, past-of, step-past, past-on, sitPast, rowPast, movePast, setPast}

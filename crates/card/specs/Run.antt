@@ -8,6 +8,7 @@ use lib.ListN.{length, getD, set, replicate}
 use lib.IntN.{ℤ, pos, negsuc}
 use lib.Dec.{leb, eqb}
 use Rattle.ground.specs.Pick.{pick}
+use Rattle.ground.specs.Lists.{Bytes}
 use Rattle.card.specs.Table.{Cmd, move, put, Row, Sit, Table}
 
 -- the longest line
@@ -108,13 +109,9 @@ EndRead T lost = ⊥
 abbrev pub Stuck : Table → List ℕ → Type 0
 Stuck T w = (over T w ≡ lost) ⊎ EndRead T (over T w)
 
-abbrev pub AllBytes : List ℕ → Type 0
-AllBytes [] = Unit {0}
-AllBytes (b ∷ w) = (b < 256) × AllBytes w
-
 -- a line as a run takes it
 abbrev pub Line : List ℕ → Type 0
-Line w = AllBytes w × (length w ≤ lineMax)
+Line w = Bytes w × (length w ≤ lineMax)
 
 -- ---- the result: the code, the answer and the eight places
 

@@ -9,7 +9,7 @@ use Prim.Native.Nat.{ℕ, zero, suc, _<_}
 use native.Mathlib.Omega.{arith}
 use lib.ListN.{length, getD}
 use Rattle.net.specs.Rec.{Net}
-use Rattle.net.specs.File.{Bytes}
+use Rattle.ground.specs.Lists.{Bytes}
 use Rattle.paths.specs.Ways.{Accepted, Accepts, Move, Answer}
 use Rattle.paths.specs.Limits.{Over-registers, Over-situations}
 use Rattle.paths.proofs.Laws.{loops-cut}

@@ -10,7 +10,8 @@ use lib.ListN.{length}
 use borrow.Author.Tests.{ltb-true, ltb-false}
 use Rattle.ground.specs.Pick.{pick}
 use Rattle.net.specs.Rec.{Net}
-use Rattle.net.specs.File.{Bytes, Legal, fileOf}
+use Rattle.net.specs.File.{Legal, fileOf}
+use Rattle.ground.specs.Lists.{Bytes}
 use Rattle.net.specs.Items.{NetRead, net, refused, netOf, NetFault, number}
 use Rattle.net.proofs.Inverse.{written}
 use Rattle.paths.specs.Limits.{Over-registers, Over-situations}

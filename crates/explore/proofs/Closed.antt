@@ -13,7 +13,7 @@ use Rattle.paths.specs.Equal.{same-situation}
 use Rattle.paths.specs.Numbering.{among, once, nexts, numbered, explored}
 use Rattle.paths.specs.Limits.{Sit, bytes, all, first}
 use Rattle.paths.proofs.Member.{Bool-cases}
-use Rattle.paths.proofs.Common.{Prefix, getD-mem}
+use Rattle.ground.proofs.Members.{Prefix, getD-mem}
 use Rattle.paths.proofs.Builder.{situation-test, found-first, found-all}
 use Rattle.paths.proofs.Limits.{closed-next}
 use Rattle.explore.specs.Lists.{span}

@@ -8,7 +8,7 @@ use native.Mathlib.Omega.{arith}
 use native.Mathlib.Decide.{decLt, decLe}
 use lib.ListN.{length}
 use Rattle.ground.proofs.Picks.{pick-lt, pick-not-lt, pick-le, pick-not-le}
-use Rattle.net.specs.File.{Bytes}
+use Rattle.ground.specs.Lists.{Bytes}
 use Rattle.answers.specs.Answers.{PATTERN-LONG, PATTERN-FORM, PATTERN-DEEP, PATTERN-BIG, OUT-SMALL}
 use Rattle.pattern.specs.Pat.{Pat, size}
 use Rattle.pattern.specs.Reader.{Res, alts, read}

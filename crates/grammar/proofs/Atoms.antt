@@ -9,14 +9,15 @@ use lib.Seq.{drop-cons}
 use lib.Dec.{eqb, leb}
 use borrow.Author.Tests.{eqb-true, eqb-false, leb-true}
 use Rattle.ground.specs.Pick.{look}
-use Rattle.net.specs.File.{Bytes}
+use Rattle.ground.specs.Lists.{Bytes}
+use Rattle.ground.proofs.Tests.{true-false, either-no, no-either, both-yes}
+use Rattle.ground.proofs.Every.{byte-at, bytes-from}
 use Rattle.ground.proofs.Lists.{follows}
 use Rattle.pattern.specs.Sets.{Item, fresh, bad, setOn, Scanned, listing, wrong, scan}
 use Rattle.pattern.specs.Reader.{atom, stops, repeating, barred, onByte, setRead, setFrom, setAt, onSet, onDot, tagged, isTag, onMark, escaped, onEsc, single}
 use Rattle.pattern.specs.Grammar as grammar
 use Rattle.pattern.specs.Grammar.{special}
-use Rattle.pattern.proofs.Laws.{true-false, in-text, byte-of, false-in}
-use Rattle.grammar.proofs.Common.{either-no, no-either, both-yes, byte-at, bytes-from}
+use Rattle.pattern.proofs.Laws.{in-text, byte-of, false-in}
 use Rattle.grammar.proofs.SetRun.{setRun, got, Going, Stuck}
 use Rattle.grammar.proofs.SetHeard.{Sofar}
 use Rattle.grammar.proofs.SetPlace.{Listed, Broken, scan-listing, scan-wrong}

@@ -10,13 +10,14 @@ use lib.Seq.{drop-cons, take-take}
 use lib.Dec.{eqb}
 use borrow.Author.Tests.{eqb-true, ne-eqb}
 use Rattle.ground.specs.Pick.{pick, look}
-use Rattle.net.specs.File.{Bytes}
+use Rattle.ground.specs.Lists.{Bytes}
+use Rattle.ground.proofs.Tests.{true-false, or-left}
+use Rattle.ground.proofs.Every.{byte-at, bytes-both}
 use Rattle.pattern.specs.Pat.{Pat}
 use Rattle.pattern.specs.Sets.{setOn}
 use Rattle.pattern.specs.Reader.{Res, ok, form, deep, alts, read}
 use Rattle.pattern.specs.Grammar.{Spells, Legal, Begins}
-use Rattle.pattern.proofs.Laws.{true-false, Good, read-good}
-use Rattle.grammar.proofs.Common.{or-left, byte-at, bytes-both}
+use Rattle.pattern.proofs.Laws.{Good, read-good}
 use Rattle.grammar.proofs.SetHeard.{completed}
 use Rattle.grammar.proofs.Machine.{St, at, esc, mark, box, inset, dead, into, on, run, run-append, run-dead, inset-run}
 use Rattle.grammar.proofs.Runs.{runs}

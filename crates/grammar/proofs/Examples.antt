@@ -8,7 +8,7 @@ use Rattle.ground.specs.Pick.{pick}
 use Rattle.pattern.specs.Sets.{setOn, gained, scan}
 use Rattle.pattern.specs.Reader.{form, deep, alts, single, setAt, readIn, read}
 use Rattle.pattern.specs.Grammar.{FormAt, DeepAt}
-use Rattle.grammar.proofs.Common.{small, bytes-of}
+use Rattle.ground.proofs.Every.{small, bytes-of}
 use Rattle.grammar.proofs.Place.{form-place, deep-place}
 
 form-in : (s : List ℕ) (q : ℕ) → small s ≡ true → read s alts 0 0 ≡ form q → FormAt s q

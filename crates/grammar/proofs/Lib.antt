@@ -1,4 +1,3 @@
-pub mod Common
 pub mod SetRun
 pub mod Names
 pub mod SetSpelled

@@ -10,7 +10,7 @@ use Rattle.ground.specs.Pick.{pick}
 use Rattle.pattern.specs.Sets.{Step, fresh, ready, held, quote, dash, dash-quote, name, shut, bad, setOn}
 use Rattle.pattern.specs.Reader.{stops, repeating, barred, isTag}
 use Rattle.pattern.specs.Grammar.{Ordinary}
-use Rattle.grammar.proofs.Common.{either-no, no-either}
+use Rattle.ground.proofs.Tests.{either-no, no-either}
 use Rattle.grammar.proofs.SetRun.{setRun, run-bad, Going, going-first}
 
 -- k groups open; at: between atoms, and whether the last byte ended an atom that has no repetition; after `\`; after `@`; after `[`; in a set; no pattern goes on

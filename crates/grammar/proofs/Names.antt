@@ -10,10 +10,10 @@ use borrow.Author.Tests.{eqb-true}
 use Rattle.ground.specs.Pick.{pick}
 use Rattle.ground.proofs.Picks.{picked, passed}
 use Rattle.ground.proofs.Tested.{tested-below}
-use Rattle.net.specs.File.{Bytes}
+use Rattle.ground.specs.Lists.{Bytes}
+use Rattle.ground.proofs.Tests.{true-false, T-true}
+use Rattle.ground.proofs.Every.{small, bytes-of}
 use Rattle.pattern.specs.Sets.{Item, span, class, Step, fresh, ready, held, quote, dash, dash-quote, name, shut, bad, setOn, gained, Named, whole, begun, none, names, wordOf, against, orElse, seek}
-use Rattle.pattern.proofs.Laws.{true-false}
-use Rattle.grammar.proofs.Common.{T-true, small, bytes-of}
 use Rattle.grammar.proofs.SetRun.{setRun, got}
 
 -- A word of a class leads from its `[` to a complete item, that class. Twelve words, each computed.

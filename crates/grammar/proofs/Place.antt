@@ -9,12 +9,13 @@ use native.Mathlib.Decide.{decLt}
 use lib.ListN.{length, take, drop, take-append-drop}
 use lib.Seq.{take-suc, take-take}
 use Rattle.ground.specs.Pick.{look}
-use Rattle.net.specs.File.{Bytes}
+use Rattle.ground.specs.Lists.{Bytes}
+use Rattle.ground.proofs.Tests.{true-false}
+use Rattle.ground.proofs.Every.{bytes-front}
 use Rattle.pattern.specs.Pat.{Pat}
 use Rattle.pattern.specs.Reader.{ok, form, deep, alts, read}
 use Rattle.pattern.specs.Grammar.{Spells, FormAt, Open, DeepAt}
-use Rattle.pattern.proofs.Laws.{true-false, Good, Went, went, read-good, byte-of, same-default}
-use Rattle.grammar.proofs.Common.{bytes-front}
+use Rattle.pattern.proofs.Laws.{Good, Went, went, read-good, byte-of, same-default}
 use Rattle.grammar.proofs.Machine.{St, at, on, run, run-append}
 use Rattle.grammar.proofs.Runs.{runs, fit-low, depth, Low, low-at, Room}
 use Rattle.grammar.proofs.Parts.{Part, part-front}

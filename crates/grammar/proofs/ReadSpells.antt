@@ -6,7 +6,7 @@ use mathlib.Core.List.{List}
 use native.Mathlib.Omega.{arith}
 use native.Mathlib.Decide.{decLt}
 use lib.ListN.{length}
-use Rattle.net.specs.File.{Bytes}
+use Rattle.ground.specs.Lists.{Bytes}
 use Rattle.pattern.specs.Pat.{Pat}
 use Rattle.pattern.specs.Reader.{Res, ok, form, deep, alts, read}
 use Rattle.pattern.specs.Grammar.{Spells, Legal, FormAt}

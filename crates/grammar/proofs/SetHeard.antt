@@ -8,11 +8,12 @@ use lib.Dec.{eqb, ltb}
 use borrow.Author.Tests.{eqb-true, ltb-false, le-ltb}
 use Rattle.ground.specs.Pick.{pick}
 use Rattle.ground.proofs.Picks.{picked, passed}
-use Rattle.net.specs.File.{Bytes}
+use Rattle.ground.specs.Lists.{Bytes}
+use Rattle.ground.proofs.Tests.{either-no, no-either}
+use Rattle.ground.proofs.Every.{bytes-back}
 use Rattle.pattern.specs.Tests.{among}
 use Rattle.pattern.specs.Sets.{Item, span, class, Step, fresh, ready, held, quote, dash, dash-quote, name, shut, bad, item, ends, upto, after-name, class-of, setOn, gained, Named, whole, begun, none, names, seek}
 use Rattle.pattern.specs.Grammar.{CharSpells, itself, quoted, ItemSpells, char, chars, named, ItemsSpell, last-item, more-items}
-use Rattle.grammar.proofs.Common.{either-no, no-either, bytes-back}
 use Rattle.grammar.proofs.SetRun.{setRun, got, setRun-append, Going}
 use Rattle.grammar.proofs.SetSpelled.{shuts}
 use Rattle.grammar.proofs.Names.{word-bytes, word-run, seek-whole, seek-begun}

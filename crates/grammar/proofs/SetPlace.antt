@@ -5,10 +5,10 @@ use mathlib.Core.List.{List, [], _∷_, _++_, append-assoc}
 use native.Mathlib.Omega.{arith}
 use lib.ListN.{length, take, length-append}
 use lib.Seq.{take-append-seam, take-append-add}
-use Rattle.net.specs.File.{Bytes}
+use Rattle.ground.specs.Lists.{Bytes}
+use Rattle.ground.proofs.Every.{bytes-front}
 use Rattle.pattern.specs.Sets.{Item, Step, fresh, shut, bad, setOn, listing, wrong, scan}
 use Rattle.pattern.specs.Grammar.{ItemsSpell}
-use Rattle.grammar.proofs.Common.{bytes-front}
 use Rattle.grammar.proofs.SetRun.{setRun, got, setRun-append, run-bad, Going, Heard, Broke, Stuck, Follow, follow}
 use Rattle.grammar.proofs.SetSpelled.{set-run}
 use Rattle.grammar.proofs.SetHeard.{Sofar, nothing, sofar-run, completed}

@@ -11,7 +11,7 @@ use Rattle.ground.proofs.Picks.{picked, passed}
 use Rattle.pattern.specs.Tests.{among}
 use Rattle.pattern.specs.Sets.{Item, span, Step, fresh, ready, held, quote, dash, dash-quote, name, shut, bad, item, ends, upto, setOn, gained, names, wordOf, listing, scan}
 use Rattle.pattern.specs.Grammar.{Plain, CharSpells, itself, quoted, ItemSpells, char, chars, named, ItemsSpell, last-item, more-items}
-use Rattle.grammar.proofs.Common.{either-no, no-either}
+use Rattle.ground.proofs.Tests.{either-no, no-either}
 use Rattle.grammar.proofs.SetRun.{setRun, got, setRun-append, got-append, Going, scan-shut}
 use Rattle.grammar.proofs.Names.{word-run, word-got}
 

@@ -15,7 +15,8 @@ use Rattle.pattern.specs.Sets.{Item, fresh, scan, allows, maskOf}
 use Rattle.pattern.specs.Reader.{ok, deep, Lvl, alts, seq, piece, atom, andThen, stops, repeating, barred, setRead, setFrom, setAt, repeated, closed, read}
 use Rattle.pattern.specs.Grammar as grammar
 use Rattle.pattern.specs.Grammar.{Spells, ItemsSpell, SetSpells}
-use Rattle.pattern.proofs.Laws.{true-false, alts-one, alts-more, seq-none, seq-some, piece-ok, atom-lone, atom-closed, single-escaped, single-tag, single-dot, single-set, single-plain}
+use Rattle.pattern.proofs.Laws.{alts-one, alts-more, seq-none, seq-some, piece-ok, atom-lone, atom-closed, single-escaped, single-tag, single-dot, single-set, single-plain}
+use Rattle.ground.proofs.Tests.{true-false}
 use Rattle.pattern.proofs.Steps.{once}
 use Rattle.grammar.proofs.SetSpelled.{set-run, scan-spelled}
 use Rattle.grammar.proofs.Machine.{passes, no-caret}

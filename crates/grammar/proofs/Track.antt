@@ -9,13 +9,14 @@ use lib.ListN.{length}
 use lib.Dec.{eqb}
 use borrow.Author.Tests.{eqb-true, eqb-false}
 use Rattle.ground.specs.Pick.{look}
-use Rattle.net.specs.File.{Bytes}
+use Rattle.ground.specs.Lists.{Bytes}
+use Rattle.ground.proofs.Tests.{true-false}
+use Rattle.ground.proofs.Every.{byte-at}
 use Rattle.pattern.specs.Pat.{Pat, Star, Plus, Opt}
 use Rattle.pattern.specs.Reader.{Lvl, alts, seq, piece, atom, stops, repeating, altTail, seqTail, opt?, plus?, repeated, closed, grouped, atomOr, step, left, read}
 use Rattle.pattern.specs.Grammar as grammar
 use Rattle.pattern.specs.Grammar.{Open}
-use Rattle.pattern.proofs.Laws.{true-false, byte-in, byte-of, went, read-good, read-step}
-use Rattle.grammar.proofs.Common.{byte-at}
+use Rattle.pattern.proofs.Laws.{byte-in, byte-of, went, read-good, read-step}
 use Rattle.grammar.proofs.Machine.{at, on, run, run-append}
 use Rattle.grammar.proofs.Runs.{runs, repeat-to, fit-low, Low, low-then, Room}
 use Rattle.grammar.proofs.Parts.{no-bytes, join, byte-then, then-byte}

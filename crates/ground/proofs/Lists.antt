@@ -1,11 +1,12 @@
 -- Laws of lists that several crates ask for and the library has not. Assumes nothing.
 use mathlib.Core.Path.{_≡_, refl, sym, ap, _∙_}
 use mathlib.Core.List.{List, [], _∷_, _++_, map, append-assoc}
-use Prim.Native.Nat.{ℕ, zero, suc, _+_, _<_}
+use Prim.Native.Nat.{ℕ, zero, suc, _+_, _-_, _<_, _≤_}
 use native.Mathlib.Omega.{arith}
 use native.Mathlib.Numerals.{add-one}
-use lib.ListN.{length, getD, take, drop, set, length-map}
-use lib.Seq.{drop-cons, take-add, drop-drop, take-at, drop-at}
+use native.Mathlib.Nat.{add-zero, sub-self}
+use lib.ListN.{length, getD, take, drop, set, length-map, length-drop}
+use lib.Seq.{drop-cons, take-add, take-suc, getD-drop, drop-drop, take-at, drop-at}
 use Rattle.ground.specs.Lists.{each}
 
 -- ---- `map`
@@ -41,6 +42,10 @@ module _ {A : Type 0} where
   pub peel : (s : List A) (i : ℕ) (d : A) → i < length s → drop i s ≡ getD s i d ∷ drop (i + 1) s
   peel s i d h = drop-cons s i d h ∙ ap (λ (n : ℕ). getD s i d ∷ drop n s) (sym (add-one i))
 
+  -- the same with the next place under another name
+  pub peel-to : (s : List A) (i b : ℕ) (d : A) → b ≡ i + 1 → i < length s → drop i s ≡ getD s i d ∷ drop b s
+  peel-to s i b d e h = peel s i d h ∙ ap (λ (n : ℕ). getD s i d ∷ drop n s) (sym e)
+
   -- a segment of n + m elements is one of n and then one of m
   pub segment-add : (s : List A) (at n m : ℕ) → take (n + m) (drop at s) ≡ take n (drop at s) ++ take m (drop (at + n) s)
   segment-add s at n m = take-add n m (drop at s) ∙ ap (λ l. take n (drop at s) ++ take m l) (drop-drop n at s)
@@ -52,3 +57,54 @@ module _ {A : Type 0} where
   -- and the beginning is the segment
   pub begins : (s b c : List A) (at : ℕ) → drop at s ≡ b ++ c → take (length b) (drop at s) ≡ b
   begins s b c at e = ap (take (length b)) e ∙ take-at b c (length b) refl
+
+-- no element
+pub take-none : {A : Type 0} (n : ℕ) (l : List A) → take (n - n) l ≡ []
+take-none n l = ap (λ k. take k l) (sub-self n)
+
+-- the part from a up to i, and the element at i
+pub part-more : {A : Type 0} (s : List A) (d : A) (a i : ℕ) → a ≤ i → i < length s → take (i + 1 - a) (drop a s) ≡ take (i - a) (drop a s) ++ getD s i d ∷ []
+part-more s d a i h l =
+    let n : i + 1 - a ≡ suc (i - a) = omega arith in
+    let e = length-drop a s in
+    let m : a + (i - a) ≡ i = omega arith in
+    ap (λ k. take k (drop a s)) n ∙ take-suc (drop a s) (i - a) d (omega arith) ∙ ap (λ x. take (i - a) (drop a s) ++ x ∷ []) (getD-drop a s (i - a) d ∙ ap (λ k. getD s k d) m)
+
+-- ---- what stands at a place of a list, told by the list that begins there
+
+module _ (s : List ℕ) (at : ℕ) {b : List ℕ} (e : drop at s ≡ b) where
+  pub byte-here : (k : ℕ) → getD s (at + k) 0 ≡ getD b k 0
+  byte-here k = sym (getD-drop at s k 0) ∙ ap (λ (l : List ℕ). getD l k 0) e
+
+  pub first-here : getD s at 0 ≡ getD b 0 0
+  first-here = ap (λ (n : ℕ). getD s n 0) (sym (add-zero at)) ∙ byte-here 0
+
+  pub left-here : length s - at ≡ length b
+  left-here = sym (length-drop at s) ∙ ap length e
+
+  pub later-here : (n : ℕ) → drop (at + n) s ≡ drop n b
+  later-here n = sym (drop-drop n at s) ∙ ap (drop n) e
+
+-- the list from a place on, by its first bytes
+module _ (s : List ℕ) where
+  pub one-there : (at : ℕ) → at + 1 ≤ length s → drop at s ≡ getD s at 0 ∷ drop (at + 1) s
+  one-there at l = drop-cons s at 0 (omega arith) ∙ ap (λ (n : ℕ). getD s at 0 ∷ drop n s) (sym (add-one at))
+
+  pub two-there : (at : ℕ) → at + 2 ≤ length s → drop at s ≡ getD s at 0 ∷ getD s (at + 1) 0 ∷ drop (at + 2) s
+  two-there at l =
+      one-there at (omega arith)
+      ∙ ap (λ (x : List ℕ). getD s at 0 ∷ x) (one-there (at + 1) (omega arith)
+      ∙ ap (λ (n : ℕ). getD s (at + 1) 0 ∷ drop n s) (let e : at + 1 + 1 ≡ at + 2 = omega arith in e))
+
+  pub three-there : (at : ℕ) → at + 3 ≤ length s → drop at s ≡ getD s at 0 ∷ getD s (at + 1) 0 ∷ getD s (at + 2) 0 ∷ drop (at + 3) s
+  three-there at l =
+      two-there at (omega arith)
+      ∙ ap (λ (x : List ℕ). getD s at 0 ∷ getD s (at + 1) 0 ∷ x) (one-there (at + 2) (omega arith)
+      ∙ ap (λ (n : ℕ). getD s (at + 2) 0 ∷ drop n s) (let e : at + 2 + 1 ≡ at + 3 = omega arith in e))
+
+  pub four-there : (at : ℕ) → at + 4 ≤ length s
+      → drop at s ≡ getD s at 0 ∷ getD s (at + 1) 0 ∷ getD s (at + 2) 0 ∷ getD s (at + 3) 0 ∷ drop (at + 4) s
+  four-there at l =
+      three-there at (omega arith)
+      ∙ ap (λ (x : List ℕ). getD s at 0 ∷ getD s (at + 1) 0 ∷ getD s (at + 2) 0 ∷ x) (one-there (at + 3) (omega arith)
+      ∙ ap (λ (n : ℕ). getD s (at + 3) 0 ∷ drop n s) (let e : at + 3 + 1 ≡ at + 4 = omega arith in e))

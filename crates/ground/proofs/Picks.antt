@@ -44,6 +44,12 @@ unfolding pick
 pick-of f true a b = refl
 pick-of f false a b = refl
 
+-- a choice has what both of its sides have
+pub by-test : {A : Type 0} (P : A → Type 0) (b : Bool) (x y : A) → (b ≡ true → P x) → (b ≡ false → P y) → P (pick b x y)
+unfolding pick
+by-test P true x y f g = f refl
+by-test P false x y f g = g refl
+
 -- ---- the byte at a place, or 256
 
 -- inside a list it makes no difference what stands past its end

@@ -1,4 +1,3 @@
-pub mod Common
 pub mod Totals
 pub mod Stuck
 pub mod Passes

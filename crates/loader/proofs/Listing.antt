@@ -14,7 +14,8 @@ use Rattle.card.specs.declared.Order.{Order}
 use Rattle.card.specs.declared.Order.the-variants.{Move, Put, Stop}
 use Rattle.card.proofs.Laws.{cmds-step}
 use Rattle.card.proofs.Rows.{after-step}
-use Rattle.loader.specs.Flow.{Says, bitOf, written, asked, Listed}
+use Rattle.loader.specs.Flow.{Says, written, asked, Listed}
+use Rattle.ground.specs.Bits.{bitOf}
 
 -- the set of one register
 pub one-bit : (r : ℕ) → r < 64 → 1 * 2 ^ r % 2 ^ 64 ≡ 2 ^ r

@@ -13,8 +13,9 @@ use lib.Dec.{lit<}
 use lib.Count.{ones}
 use Rattle.card.specs.Table.{Row, Table}
 use Rattle.card.specs.Run.{In, sit}
-use Rattle.loader.specs.Flow.{bitOf, written, flow, total, startSet, Way, here, go, Grounded, Spread, Closed, Sub, Words, Pass, Round, Sweep, Settled}
-use Rattle.loader.proofs.Common.{bit-zero}
+use Rattle.loader.specs.Flow.{written, flow, total, startSet, Way, here, go, Grounded, Spread, Closed, Sub, Words, Pass, Round, Sweep, Settled}
+use Rattle.ground.specs.Bits.{bitOf}
+use Rattle.ground.proofs.Masks.{zero-bit}
 use Rattle.loader.proofs.Sets.{flow-keeps, flow-adds, flow-only, flow-fits, flow-grows}
 use Rattle.loader.proofs.Totals.{total-set, total-le}
 
@@ -122,14 +123,14 @@ module _ (T : Table) where
   from-start : (start : ℕ) (l : List ℕ) → ((i : ℕ) → getD l i 0 ≡ 0) → (k q r : ℕ) → bitOf (getD (start ∷ l) q 0) r ≡ 1 → Way T start r k q
   from-start start l z k zero r b = here k b
   from-start start l z k (suc q) r b =
-      let e : _≡_ {A = ℕ} 0 1 = sym (ap (λ (x : ℕ). bitOf x r) (z q) ∙ bit-zero r) ∙ b in absurd (omega arith)
+      let e : _≡_ {A = ℕ} 0 1 = sym (ap (λ (x : ℕ). bitOf x r) (z q) ∙ zero-bit r) ∙ b in absurd (omega arith)
 
   small : (start : ℕ) (l : List ℕ) → ((i : ℕ) → getD l i 0 ≡ 0) → start < 2 ^ 64 → (i : ℕ) → getD (start ∷ l) i 0 < 2 ^ 64
   small start l z h zero = h
   small start l z h (suc i) = rw (z i) (lit< tt)
 
   no-bit : (q r : ℕ) → bitOf (getD (replicate 96 0) q 0) r ≡ 1 → ⊥
-  no-bit q r b = let e : _≡_ {A = ℕ} 0 1 = sym (ap (λ (x : ℕ). bitOf x r) (zeros 96 q) ∙ bit-zero r) ∙ b in omega arith
+  no-bit q r b = let e : _≡_ {A = ℕ} 0 1 = sym (ap (λ (x : ℕ). bitOf x r) (zeros 96 q) ∙ zero-bit r) ∙ b in omega arith
 
   pub begin : (start : ℕ) → start ≡ startSet T → start < 2 ^ 64 → Round T (set (replicate 96 0) 0 start) (replicate 96 0)
   begin start e h = record {

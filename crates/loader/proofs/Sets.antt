@@ -9,8 +9,10 @@ use lib.Dec.{lit<}
 use lib.Bits.{bitOr, bitXor, differ, or-lt, xor-lt}
 use lib.Count.{ones}
 use Rattle.card.specs.Table.{Cmd, move, put, Table}
-use Rattle.loader.specs.Flow.{bitOf, written, asked, Reads, flow, startSet}
-use Rattle.loader.proofs.Common.{bit-two, or-bit, xor-bit, bit-zero, not-both, bit-same, bit-other, ones-in, bit-in, or-none, or-split, or-one, or-left, or-right, or-grows}
+use Rattle.loader.specs.Flow.{written, asked, Reads, flow, startSet}
+use Rattle.ground.specs.Bits.{bitOf}
+use Rattle.ground.proofs.Bits.{bit-two, or-bit, xor-bit}
+use Rattle.ground.proofs.Masks.{zero-bit, not-both, bit-same, bit-other, ones-in, bit-in, or-none, or-split, or-one, or-left, or-right, or-grows}
 use Rattle.loader.proofs.Stuck.{Free}
 
 -- ---- along a row
@@ -114,9 +116,9 @@ unfolding startSet
 start-of T r e = one (flow-only 0 (2 ^ 64 - 1) (written 0 (T .start)) r e)
   where
     one : (bitOf 0 r ≡ 1) ⊎ ((bitOf (2 ^ 64 - 1) r ≡ 1) × (bitOf (written 0 (T .start)) r ≡ 0)) → (r < 64) × Free r (T .start)
-    one (inl h) = absurd (not-both 0 r (bit-zero r) h)
+    one (inl h) = absurd (not-both 0 r (zero-bit r) h)
     one (inr h) = (bit-in 64 (2 ^ 64 - 1) r (lit< tt) (h .0), free-written (T .start) 0 r (h .1) .0)
 
 pub of-start : (T : Table) (r : ℕ) → r < 64 → Free r (T .start) → bitOf (startSet T) r ≡ 1
 unfolding startSet
-of-start T r l f = flow-adds 0 (2 ^ 64 - 1) (written 0 (T .start)) r (ones-in 64 r l) (written-free (T .start) 0 r f (bit-zero r))
+of-start T r l f = flow-adds 0 (2 ^ 64 - 1) (written 0 (T .start)) r (ones-in 64 r l) (written-free (T .start) 0 r f (zero-bit r))

@@ -14,7 +14,8 @@ use Rattle.card.specs.Decode.{cmdsAt, rowAt, rowsAt, afterAt, afterRows, sitAt,
 use Rattle.card.specs.declared.RowItem.{RowItem}
 use Rattle.card.specs.declared.RowItem.the-variants.{Leads, Ends}
 use Rattle.card.proofs.Rows.{rows-step, row-whole}
-use Rattle.loader.specs.Flow.{Loud, row, end, RowsOf, Ready, RowAsks, FieldAsks, Reads, bitOf, written, flow, startSet}
+use Rattle.loader.specs.Flow.{Loud, row, end, RowsOf, Ready, RowAsks, FieldAsks, Reads, written, flow, startSet}
+use Rattle.ground.specs.Bits.{bitOf}
 use Rattle.loader.proofs.Shape.{not-in, in-table, next-in, sit-of}
 
 -- ---- the situations that a table's bytes hold

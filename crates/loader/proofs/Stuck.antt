@@ -9,7 +9,9 @@ use lib.ListN.{length, getD, set, replicate, length-append, List·getD-eq-defaul
 use lib.Seq.{getD-set-same, getD-set-other, set-out}
 use lib.IntN.{ℤ, pos, negsuc}
 use Rattle.card.specs.Table.{Cmd, move, put, Row, Sit, Table}
-use Rattle.card.specs.Run.{Bank, lineMax, empties, Empty, reg, Out, ok, stuck, moved, apply, State, at, lost, arrive, sit, rowIn, step, run, begun, over, In, hd, tl, EndRead, Stuck, AllBytes, Line}
+use Rattle.card.specs.Run.{Bank, lineMax, empties, Empty, reg, Out, ok, stuck, moved, apply, State, at, lost, arrive, sit, rowIn, step, run, begun, over, In, hd, tl, EndRead, Stuck, Line}
+use Rattle.ground.specs.Lists.{Bytes}
+use Rattle.ground.proofs.Every.{bytes-more}
 use Rattle.loader.specs.Flow.{EmptyRead, Reads}
 
 -- r is no target of a list
@@ -146,7 +148,7 @@ module _
           let s = stuck-reads (rowIn t q b .cmds) p bank bank e in
           quiet-row q b (s .0) l (g (s .0) (s .2)) (s .1)
 
-  good-run : (w : List ℕ) (s : State) (p : ℕ) → AllBytes w → Good s → Good (run t s p w)
+  good-run : (w : List ℕ) (s : State) (p : ℕ) → Bytes w → Good s → Good (run t s p w)
   unfolding run
   good-run [] s p a g = g
   good-run (b ∷ w) s p a g = good-run w (step t s (suc p) b) (suc p) (a .1) (good-step s (suc p) b (a .0) g)
@@ -174,16 +176,12 @@ module _ (t : Table) where
       run-more w (step t s (suc p) c) (suc p) b
       ∙ ap (λ (n : ℕ). step t (run t (step t s (suc p) c) (suc p) w) (suc n) b) (omega arith)
 
-  all-more : (w : List ℕ) (b : ℕ) → AllBytes w → b < 256 → AllBytes (w ++ (b ∷ []))
-  all-more [] b a l = (l, tt)
-  all-more (c ∷ w) b a l = (a .0, all-more w b (a .1) l)
-
   -- what a line does towards a situation: stuck, or there with r empty
   abbrev Came : ℕ → ℕ → State → Type 0
   Came r q s = (s ≡ lost) ⊎ ((bank : Bank) × (s ≡ at q bank) × Empty (reg bank r))
 
   abbrev Came-by : ℕ → ℕ → ℕ → Type 0
-  Came-by r k q = (w : List ℕ) × (length w ≤ k) × AllBytes w × Came r q (run t (begun t) 0 w)
+  Came-by r k q = (w : List ℕ) × (length w ≤ k) × Bytes w × Came r q (run t (begun t) 0 w)
 
   came-begun : (r : ℕ) → r < 64 → Free r (t .start) → Came r 0 (begun t)
   unfolding begun
@@ -204,13 +202,13 @@ module _ (t : Table) where
   one-more : (w : List ℕ) (b k : ℕ) → length w ≤ k → length (w ++ (b ∷ [])) ≤ suc k
   one-more w b k l = omega (arith, length-append w (b ∷ []))
 
-  longer : (r k q b : ℕ) → b < 256 → Free r (rowIn t q b .cmds) → (w : List ℕ) → length w ≤ k → AllBytes w → Came r q (run t (begun t) 0 w)
+  longer : (r k q b : ℕ) → b < 256 → Free r (rowIn t q b .cmds) → (w : List ℕ) → length w ≤ k → Bytes w → Came r q (run t (begun t) 0 w)
       → Came-by r (suc k) (rowIn t q b .next)
   longer r k q b l f w n a (inl e) = (w, omega arith, a, inl e)
   longer r k q b l f w n a (inr c) = (
     w ++ (b ∷ []),
     one-more w b k n,
-    all-more w b a l,
+    bytes-more w b a l,
     subst (Came r (rowIn t q b .next)) (sym (run-more w (begun t) 0 b ∙ ap (λ (s : State). step t s (suc (0 + length w)) b) (c .1)))
         (came-step r q (suc (0 + length w)) b (c .0) (c .2) f),
   )
@@ -225,7 +223,7 @@ module _ (t : Table) where
   unfolding EndRead
   found-end r k q way m d l = let i = reach way in ended (i .0) (i .1) (i .2) (i .3)
     where
-      ended : (w : List ℕ) → length w ≤ k → AllBytes w → Came r q (run t (begun t) 0 w) → EmptyRead t
+      ended : (w : List ℕ) → length w ≤ k → Bytes w → Came r q (run t (begun t) 0 w) → EmptyRead t
       ended w n a (inl e) = (w, ((a, omega arith), inl e))
       ended w n a (inr c) = (w, ((a, omega arith), inr (end-read (c .0) (c .1) (c .2))))
         where
@@ -237,12 +235,12 @@ module _ (t : Table) where
   unfolding step
   found-row r k q b way l d k< = let i = reach way in read (i .0) (i .1) (i .2) (i .3)
     where
-      read : (w : List ℕ) → length w ≤ k → AllBytes w → Came r q (run t (begun t) 0 w) → EmptyRead t
+      read : (w : List ℕ) → length w ≤ k → Bytes w → Came r q (run t (begun t) 0 w) → EmptyRead t
       read w n a (inl e) = (w, ((a, omega arith), inl e))
       read w n a (inr c) = (
         w ++ (b ∷ []),
         (
-          (all-more w b a l, omega (arith, one-more w b k n)),
+          (bytes-more w b a l, omega (arith, one-more w b k n)),
           inl (run-more w (begun t) 0 b ∙ ap (λ (s : State). step t s (suc (0 + length w)) b) (c .1)
               ∙ ap (arrive (rowIn t q b .next)) (reads-stuck (rowIn t q b .cmds) (suc (0 + length w)) (c .0) (c .0) r d (c .2))),
         ),

@@ -14,9 +14,10 @@ use lib.Count.{ones}
 use Rattle.card.specs.Table.{Row, Table}
 use Rattle.card.specs.Run.{In, sit}
 use Rattle.card.specs.Decode.{rowsAt, tableAt}
-use Rattle.loader.specs.Flow.{bitOf, total, Spread, Closed, Sub, Words, Pass, Flowed, Round, Sweep, Ready}
+use Rattle.loader.specs.Flow.{total, Spread, Closed, Sub, Words, Pass, Flowed, Round, Sweep, Ready}
+use Rattle.ground.specs.Bits.{bitOf}
+use Rattle.ground.proofs.Masks.{or-one, or-right, or-grows}
 use Rattle.loader.proofs.Passes.{no-flag}
-use Rattle.loader.proofs.Common.{or-one, or-right, or-grows}
 use Rattle.loader.proofs.Totals.{total-set}
 use Rattle.loader.proofs.Situated.{rows-here, count-most, no-row}
 

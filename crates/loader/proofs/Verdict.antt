@@ -8,10 +8,11 @@ use mathlib.Core.List.{List, [], _∷_}
 use lib.ListN.{length, getD}
 use Rattle.card.specs.Table.{Cmd, move, put, Row, Sit, Table, Sets, Formed}
 use Rattle.card.specs.Run.{In, sit, noSit, rowIn}
-use Rattle.loader.specs.Flow.{EmptyRead, Says, Reads, bitOf, written, startSet, Way, Settled, Loud}
+use Rattle.loader.specs.Flow.{EmptyRead, Says, Reads, written, startSet, Way, Settled, Loud}
+use Rattle.ground.specs.Bits.{bitOf}
+use Rattle.ground.proofs.Masks.{zero-bit}
 use Rattle.loader.specs.Flow as F
 use Rattle.loader.proofs.Stuck.{Free, Route, here, go, never-stuck, found-end, found-row}
-use Rattle.loader.proofs.Common.{bit-zero}
 use Rattle.loader.proofs.Sets.{start-of, of-start, free-written, written-free}
 use Rattle.loader.proofs.Shape.{not-in, sit-of, leads-in, next-in, row-byte, in-table}
 
@@ -58,7 +59,7 @@ module _ (T : Table) (formed : Formed T) where
     unfolding M
     M-closed q b r l m f =
         let i = leads-in T formed q b (m .0) l in
-        (next-in T formed q (rowIn T q b) (m .0) i, set .closed q (rowIn T q b) i r (m .1) (written-free (rowIn T q b .cmds) 0 r f (bit-zero r)))
+        (next-in T formed q (rowIn T q b) (m .0) i, set .closed q (rowIn T q b) i r (m .1) (written-free (rowIn T q b .cmds) 0 r f (zero-bit r)))
 
     -- and where none does, no line gets stuck
     pub quiet : (Loud T may → ⊥) → EmptyRead T → ⊥

@@ -17,8 +17,9 @@ use Rattle.card.specs.Decode.{cmdsAt, afterAt, rowAt, rowsAt}
 use Rattle.card.specs.declared.RowItem.{RowItem}
 use Rattle.card.specs.declared.RowItem.the-variants.{Leads, Ends}
 use Rattle.card.proofs.Rows.{rows-step}
-use Rattle.loader.specs.Flow.{Says, Reads, bitOf, asked, RowAsks, FieldAsks}
-use Rattle.loader.proofs.Common.{not-both, bit-in, bit-zero, and-bits, and-bit}
+use Rattle.loader.specs.Flow.{Says, Reads, asked, RowAsks, FieldAsks}
+use Rattle.ground.specs.Bits.{bitOf}
+use Rattle.ground.proofs.Masks.{not-both, bit-in, zero-bit, and-bits, and-bit}
 use Rattle.loader.proofs.Sets.{asked-reads, reads-asked}
 use Rattle.loader.proofs.Shape.{not-in}
 
@@ -73,7 +74,7 @@ Unasked m x = (r : ℕ) → bitOf m r ≡ 1 → Reads r (x .cmds) → ⊥
 module _ (m : ℕ) (l : List Cmd) (a : ℕ) (e : a ≡ asked 0 l) where
   pub asks-none : bitAnd a m ≡ 0 → (r : ℕ) → bitOf m r ≡ 1 → Reads r l → ⊥
   asks-none z r b d =
-      not-both 0 r (bit-zero r)
+      not-both 0 r (zero-bit r)
       (subst (λ (k : ℕ). bitOf k r ≡ 1) z (and-bit a m r (subst (λ (k : ℕ). bitOf k r ≡ 1) (sym e) (reads-asked l 0 r d)) b))
 
   pub asks-one : a < 2 ^ 64 → m < 2 ^ 64 → (bitAnd a m ≡ 0 → ⊥) → (r : ℕ) × ((bitOf m r ≡ 1) × Reads r l)
@@ -82,7 +83,7 @@ module _ (m : ℕ) (l : List Cmd) (a : ℕ) (e : a ≡ asked 0 l) where
         b .0,
         (
           b .1 .1,
-          ⊎-elim (λ (h : bitOf 0 (b .0) ≡ 1). absurd (not-both 0 (b .0) (bit-zero (b .0)) h)) (λ (h : Reads (b .0) l). h)
+          ⊎-elim (λ (h : bitOf 0 (b .0) ≡ 1). absurd (not-both 0 (b .0) (zero-bit (b .0)) h)) (λ (h : Reads (b .0) l). h)
               (asked-reads l 0 (b .0) (subst (λ (k : ℕ). bitOf k (b .0) ≡ 1) e (b .1 .0))),
         ),
       )

@@ -8,6 +8,7 @@ use Prim.Native.Nat.{ℕ, zero, suc, _+_, _-_, _/_, _%_, _^_, _<_, _≤_}
 use lib.ListN.{length, getD, take, drop}
 use lib.Bits.{bitOr, bitXor}
 use lib.Count.{ones}
+use Rattle.ground.specs.Bits.{bitOf}
 use Rattle.card.specs.Table.{Cmd, move, put, Row, Sit, Table, Formed}
 use Rattle.card.specs.Run.{In, sit, Line, Stuck}
 use Rattle.card.specs.Decode.{cmdsAt, afterAt, rowsAt, tableAt, placesOf}
@@ -23,10 +24,6 @@ Says P true = P
 Says P false = P → ⊥
 
 -- ---- a list of commands: the registers that it writes and those that it reads
-
--- bit r of a number, 0 or 1
-unfoldable pub bitOf : ℕ → ℕ → ℕ
-bitOf n r = n / 2 ^ r % 2
 
 -- a set and the targets of a list
 unfoldable pub written : ℕ → List Cmd → ℕ

@@ -7,9 +7,10 @@ use native.Mathlib.Omega.{arith}
 use lib.Dec.{eqb}
 use lib.ListN.{length, getD, length-map}
 use Rattle.net.specs.Rec.{mask, rec}
-use Rattle.net.specs.File.{Every, Fits, Legal}
+use Rattle.net.specs.File.{Fits, Legal}
+use Rattle.ground.specs.Lists.{Every}
+use Rattle.ground.proofs.Every.{every-at, every-from}
 use Rattle.net.specs.Items.{rec-at, net-at, size, starts, got, itemAt, Placed}
-use Rattle.net.proofs.Common.{every-at, every-from}
 use Rattle.net.proofs.Whole.{Stands, kind-known, reads-from, net-head, item-got}
 
 getD-map : {A B : Type 0} (f : A → B) (l : List A) (i : ℕ) (d : A) (e : B) → i < length l → getD (map f l) i e ≡ f (getD l i d)

@@ -8,11 +8,12 @@ use lib.ListN.{length, getD, take, drop, length-append}
 use lib.Seq.{getD-append-add, getD-append-seam, getD-at, drop-append-add, take-at}
 use borrow.Author.Tests.{lt-ltb, le-ltb, le-leb, ne-eqb}
 use Rattle.ground.specs.Pick.{pick}
-use Rattle.ground.specs.Lists.{each}
+use Rattle.ground.specs.Lists.{each, Every, Bytes}
 use Rattle.net.specs.Rec.{Rec, range, mask, fork, tag, end, Net}
-use Rattle.net.specs.File.{Every, Bytes, rec-bytes, fileOf, Fits, Legal}
+use Rattle.net.specs.File.{rec-bytes, fileOf, Fits, Legal}
+use Rattle.ground.proofs.Lists.{peel-to}
+use Rattle.ground.proofs.Every.{bytes-at, every-append}
 use Rattle.net.specs.Items.{rec-at, size, got, known, in-range, itemAt, counts, headOf, net, prepend, after-item, recsFrom, after-head, netOf, NetFault, refused, NetRead, codeOf}
-use Rattle.net.proofs.Common.{peel, bytes-at, every-append}
 use Rattle.net.proofs.Reading.{at-range, at-mask, at-fork, at-tag, at-end}
 use Rattle.net.proofs.Whole.{number-pos, reads-from, HeadTaken, head-taken, net-head, placed, item-got}
 use Rattle.net.proofs.Inside.{placed-legal}
@@ -23,10 +24,10 @@ module _ (s : List ℕ) (bytes : Bytes s) where
   head-there : (t c : ℕ) → HeadTaken s t c → s ≡ 16 ∷ 1 ∷ t ∷ c ∷ drop 4 s
   head-there t c h =
       let l = h .long in
-      peel s 0 1 (omega arith) (omega arith)
-      ∙ ap₂ _∷_ (h .kind) (peel s 1 2 (omega arith) (omega arith)
-      ∙ ap₂ _∷_ (h .edition) (peel s 2 3 (omega arith) (omega arith)
-      ∙ ap₂ _∷_ (sym (h .tags-there)) (peel s 3 4 (omega arith) (omega arith)
+      peel-to s 0 1 0 (omega arith) (omega arith)
+      ∙ ap₂ _∷_ (h .kind) (peel-to s 1 2 0 (omega arith) (omega arith)
+      ∙ ap₂ _∷_ (h .edition) (peel-to s 2 3 0 (omega arith) (omega arith)
+      ∙ ap₂ _∷_ (sym (h .tags-there)) (peel-to s 3 4 0 (omega arith) (omega arith)
       ∙ ap (λ (y : ℕ). y ∷ drop 4 s) (sym (h .count-there)))))
 
   pub written : (tags : ℕ) (A : Net) → netOf s ≡ net tags A → (s ≡ fileOf tags A) × Legal tags A

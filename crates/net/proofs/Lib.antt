@@ -1,4 +1,3 @@
-pub mod Common
 pub mod Reading
 pub mod Whole
 pub mod Laying

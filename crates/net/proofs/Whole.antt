@@ -9,11 +9,12 @@ use lib.ListN.{length, getD, take, drop, take-append-drop, length-drop, length-m
 use lib.Seq.{drop-drop, getD-take, getD-drop, length-take-le}
 use borrow.Author.Tests.{lt-leb, le-ltb, ltb-true, ltb-false, leb-true, eqb-true, eqb-false, not-false}
 use Rattle.ground.specs.Pick.{pick}
-use Rattle.ground.specs.Lists.{each}
+use Rattle.ground.specs.Lists.{each, Every, Bytes}
 use Rattle.net.specs.Rec.{Rec, Net}
-use Rattle.net.specs.File.{Every, Bytes, rec-bytes, Fits}
+use Rattle.net.specs.File.{rec-bytes, Fits}
+use Rattle.ground.proofs.Every.{every-at, every-from}
+use Rattle.ground.proofs.Lists.{peel-to}
 use Rattle.net.specs.Items.{rec-at, net-at, size, starts, NetFault, net-kind, net-short, net-field, net-extra, number, ItemRead, got, stop, known, in-range, bodyAt, itemAt, HeadRead, counts, bad, headOf, NetRead, net, refused, prepend, after-item, recsFrom, after-head, netOf, codeOf, Placed}
-use Rattle.net.proofs.Common.{every-at, every-from, peel}
 use Rattle.net.proofs.Reading.{at-range, at-mask, at-fork, at-tag, at-end}
 
 pub number-pos : (f : NetFault) → 0 < number f
@@ -106,35 +107,35 @@ module _ (s : List ℕ) (at : ℕ) where
   rec-there (is-range k) w =
       let l : at + 4 ≤ length s = rw k at w in
       rw (at-range s at k, k)
-      (peel s at (at + 1) refl (omega arith)
-      ∙ ap₂ _∷_ k (peel s (at + 1) (at + 2) (omega arith) (omega arith)
-      ∙ ap (λ (t : List ℕ). getD s (at + 1) 0 ∷ t) (peel s (at + 2) (at + 3) (omega arith) (omega arith)
-      ∙ ap (λ (t : List ℕ). getD s (at + 2) 0 ∷ t) (peel s (at + 3) (at + 4) (omega arith) (omega arith)))))
+      (peel-to s at (at + 1) 0 refl (omega arith)
+      ∙ ap₂ _∷_ k (peel-to s (at + 1) (at + 2) 0 (omega arith) (omega arith)
+      ∙ ap (λ (t : List ℕ). getD s (at + 1) 0 ∷ t) (peel-to s (at + 2) (at + 3) 0 (omega arith) (omega arith)
+      ∙ ap (λ (t : List ℕ). getD s (at + 2) 0 ∷ t) (peel-to s (at + 3) (at + 4) 0 (omega arith) (omega arith)))))
   rec-there (is-mask k) w =
       let l : at + 34 ≤ length s = rw k at w in
       rw (at-mask s at k, k)
-      (peel s at (at + 1) refl (omega arith)
+      (peel-to s at (at + 1) 0 refl (omega arith)
       ∙ ap₂ _∷_ k (sym (take-append-drop 32 (drop (at + 1) s))
       ∙ ap (λ (t : List ℕ). take 32 (drop (at + 1) s) ++ t)
-      (drop-drop 32 (at + 1) s ∙ ap (λ (n : ℕ). drop n s) (let e : at + 1 + 32 ≡ at + 33 = omega arith in e) ∙ peel s (at + 33) (at + 34) (omega arith) (omega arith))
+      (drop-drop 32 (at + 1) s ∙ ap (λ (n : ℕ). drop n s) (let e : at + 1 + 32 ≡ at + 33 = omega arith in e) ∙ peel-to s (at + 33) (at + 34) 0 (omega arith) (omega arith))
       ∙ sym (append-assoc (take 32 (drop (at + 1) s)) (getD s (at + 33) 0 ∷ []) (drop (at + 34) s))))
   rec-there (is-fork k) w =
       let l : at + 3 ≤ length s = rw k at w in
       rw (at-fork s at k, k)
-      (peel s at (at + 1) refl (omega arith)
-      ∙ ap₂ _∷_ k (peel s (at + 1) (at + 2) (omega arith) (omega arith)
-      ∙ ap (λ (t : List ℕ). getD s (at + 1) 0 ∷ t) (peel s (at + 2) (at + 3) (omega arith) (omega arith))))
+      (peel-to s at (at + 1) 0 refl (omega arith)
+      ∙ ap₂ _∷_ k (peel-to s (at + 1) (at + 2) 0 (omega arith) (omega arith)
+      ∙ ap (λ (t : List ℕ). getD s (at + 1) 0 ∷ t) (peel-to s (at + 2) (at + 3) 0 (omega arith) (omega arith))))
   rec-there (is-tag k) w =
       let l : at + 3 ≤ length s = rw k at w in
       rw (at-tag s at k, k)
-      (peel s at (at + 1) refl (omega arith)
-      ∙ ap₂ _∷_ k (peel s (at + 1) (at + 2) (omega arith) (omega arith)
-      ∙ ap (λ (t : List ℕ). getD s (at + 1) 0 ∷ t) (peel s (at + 2) (at + 3) (omega arith) (omega arith))))
+      (peel-to s at (at + 1) 0 refl (omega arith)
+      ∙ ap₂ _∷_ k (peel-to s (at + 1) (at + 2) 0 (omega arith) (omega arith)
+      ∙ ap (λ (t : List ℕ). getD s (at + 1) 0 ∷ t) (peel-to s (at + 2) (at + 3) 0 (omega arith) (omega arith))))
   rec-there (is-end k) w =
       let l : at + 2 ≤ length s = rw k at w in
       rw (at-end s at k, k)
-      (peel s at (at + 1) refl (omega arith)
-      ∙ ap₂ _∷_ k (peel s (at + 1) (at + 2) (omega arith) (omega arith)))
+      (peel-to s at (at + 1) 0 refl (omega arith)
+      ∙ ap₂ _∷_ k (peel-to s (at + 1) (at + 2) 0 (omega arith) (omega arith)))
 
   module _ (bytes : (i : ℕ) → getD s i 0 < 256) where
     pub part-bytes : (n b : ℕ) → b + n ≤ length s → Bytes (take n (drop b s))

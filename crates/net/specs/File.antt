@@ -4,17 +4,8 @@ use mathlib.Core.Path.{_≡_}
 use mathlib.Core.List.{List, [], _∷_, _++_}
 use Prim.Native.Nat.{ℕ, _≤_, _<_}
 use lib.ListN.{length}
-use Rattle.ground.specs.Lists.{each}
+use Rattle.ground.specs.Lists.{each, Every, Bytes}
 use Rattle.net.specs.Rec.{Rec, range, mask, fork, tag, end, Net}
-
--- every one of the list is so
-abbrev pub Every : {A : Type 0} → (A → Type 0) → List A → Type 0
-Every P [] = Unit {0}
-Every P (x ∷ xs) = P x × Every P xs
-
--- a list of bytes
-abbrev pub Bytes : List ℕ → Type 0
-Bytes s = Every (λ (b : ℕ). b < 256) s
 
 -- "Every item is one byte of kind, then a body whose length the kind fixes."
 abbrev pub rec-bytes : Rec → List ℕ

@@ -12,7 +12,7 @@ use Rattle.paths.specs.Search.{Thread, paths}
 use Rattle.paths.specs.Situation.{bite, on-quiet, on-byte, close, threads}
 use Rattle.paths.specs.Registers.{standing}
 use Rattle.paths.specs.Meaning.{Best, Sorted, Situation, trails}
-use Rattle.paths.proofs.Common.{each-cases, Ordered, one-order}
+use Rattle.ground.proofs.Members.{each-cases, Ordered, one-order}
 use Rattle.paths.proofs.Member.{ons-mem}
 use Rattle.paths.proofs.Closure.{firsts-in}
 use Rattle.paths.proofs.Heart.{closing}

@@ -12,8 +12,9 @@ use lib.Seq.{take-add, take-all, append-snoc}
 use Rattle.ground.specs.Lists.{each}
 use Rattle.paths.specs.Numbering.{words, upto, among, put, once, numbered, nexts, explored}
 use Rattle.paths.proofs.Member.{Bool-cases, choose-true, choose-false}
-pub use Rattle.paths.proofs.Common.{Prefix}
-use Rattle.paths.proofs.Common.{each-append, map-append, map-has, each-cases, each-has, ≼-self, ≼-trans, take-≼, each-≼, map-≼, take-prefix}
+pub use Rattle.ground.proofs.Members.{Prefix}
+use Rattle.ground.proofs.Lists.{each-append, map-append}
+use Rattle.ground.proofs.Members.{map-has, each-cases, each-has, ≼-self, ≼-trans, take-≼, each-≼, map-≼, take-prefix}
 use Rattle.paths.proofs.Firsts.{Keyed, gather-append, gather-≼, gather-mono, gather-has, gather-in, gather-sole, Sole, optimal-from}
 
 -- ---- inputs

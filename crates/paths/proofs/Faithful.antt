@@ -13,7 +13,7 @@ use Rattle.paths.specs.Ways.{Move, eat, turn, Step, by-range, by-mask, b
 use Rattle.ground.specs.Lists.{each}
 use Rattle.paths.specs.Search.{Thread, paths}
 use Rattle.paths.specs.Situation.{quiet, bite, follow, on-quiet, on-byte, every}
-pub use Rattle.paths.proofs.Common.{each-cases, each-has}
+pub use Rattle.ground.proofs.Members.{each-cases, each-has}
 use Rattle.paths.proofs.Member.{mem→has, not→hasnt, mem-or-not}
 
 -- a thread that gathers its moves

@@ -8,7 +8,8 @@ use native.Mathlib.Omega.{arith}
 use lib.ListN.{length, getD}
 use lib.Seq.{append-snoc}
 use Rattle.ground.specs.Lists.{each}
-use Rattle.paths.proofs.Common.{each-append, getD-mem, Prefix, ≼-self, ≼-trans, Ordered, ordered-cross, ordered-skip}
+use Rattle.ground.proofs.Lists.{each-append}
+use Rattle.ground.proofs.Members.{getD-mem, Prefix, ≼-self, ≼-trans, Ordered, ordered-cross, ordered-skip}
 
 -- Each of S has a key; `Has y l` says that one of l has the key y; `put` adds one whose key is new.
 pub record Keyed {S K : Type 0} (key : S → K) (Has : K → List S → Type 0) (put : List S → S → List S) : Type 0 where

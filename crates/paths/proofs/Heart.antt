@@ -10,7 +10,8 @@ use Rattle.paths.specs.Ways.{Move}
 use Rattle.ground.specs.Lists.{each}
 use Rattle.paths.specs.Search.{Thread, ons, firsts, paths}
 use Rattle.paths.specs.Situation.{quiet, bite, follow, on-quiet, on-byte, every, close, threads}
-pub use Rattle.paths.proofs.Common.{each-append, each-each}
+pub use Rattle.ground.proofs.Lists.{each-append}
+pub use Rattle.ground.proofs.Members.{each-each}
 use Rattle.paths.proofs.Firsts.{optimal-from}
 use Rattle.paths.proofs.Member.{mem→has, not→hasnt, mem-or-not, ons-append}
 use Rattle.paths.proofs.Closure.{by-record, Done, search-finds}

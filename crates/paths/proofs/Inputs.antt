@@ -8,7 +8,7 @@ use lib.ListN.{length, length-append}
 use Rattle.ground.specs.Lists.{each}
 use Rattle.paths.specs.Numbering.{words, upto}
 use Rattle.paths.specs.Limits.{bytes, By-values, lower, same, Before, shorter, by-values}
-use Rattle.paths.proofs.Common.{each-cases, Ordered, ordered-append, ordered-each}
+use Rattle.ground.proofs.Members.{each-cases, Ordered, ordered-append, ordered-each}
 
 -- ---- bytes rise
 

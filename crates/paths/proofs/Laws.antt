@@ -31,7 +31,7 @@ use Rattle.paths.proofs.Sharing.{same-numbers}
 use Rattle.paths.proofs.Bounds.{places-eight, answer-eight, answer-within}
 use Rattle.paths.proofs.Limits as limits
 use Rattle.paths.proofs.Inputs as inputs
-use Rattle.paths.proofs.Common.{Ordered}
+use Rattle.ground.proofs.Members.{Ordered}
 use Rattle.paths.proofs.Member.{equal-or-not}
 use Rattle.paths.specs.Numbering.{upto}
 

@@ -17,7 +17,8 @@ use Rattle.paths.specs.Registers.{registers, situation, next}
 use Rattle.paths.specs.Equal.{same-situation}
 use Rattle.paths.specs.Numbering.{upto, numbered, among, put, once, nexts, explored}
 use Rattle.paths.specs.Limits.{Before, Sit, bytes, Input, all, Numbered, Over-registers, Over-situations, first, here, partly, Small, Closes, Too-many-registers, Too-many-situations, Stops, at-start, at-byte}
-use Rattle.paths.proofs.Common.{mem-split, ordered-cross, Prefix, ≼-trans, ≼-length, ≼-at, map-≼, map-append, getD-mem, mem-getD}
+use Rattle.ground.proofs.Members.{mem-split, ordered-cross, Prefix, ≼-trans, ≼-length, ≼-at, map-≼, getD-mem, mem-getD}
+use Rattle.ground.proofs.Lists.{map-append}
 use Rattle.paths.proofs.Firsts.{put-≼, gather-≼, gather-in, Keyed, gather-append, gather-mono, put-has, sole-at}
 use Rattle.paths.proofs.Next.{situation-next}
 use Rattle.paths.proofs.Exploring.{upto-has, upto-of, by-state, numbered-≼, numbered-has, numbered-of, numbered-sole, explored-≼, explored-next}

@@ -10,7 +10,7 @@ use lib.Dec.{eqb, eqb→eq, eqb-refl}
 use lib.ListN.{length, getD}
 use Rattle.paths.specs.Search.{Thread}
 use Rattle.paths.specs.Registers.{Tags, Key, is, holds, held-by, index, known, note, registers, renamed, rename, number}
-use Rattle.paths.proofs.Common.{map-append}
+use Rattle.ground.proofs.Lists.{map-append}
 use Rattle.paths.proofs.Firsts.{Keyed, put-in, gather-has, gather-in}
 use Rattle.paths.proofs.Member.{Bool-cases, T-of, of-T}
 

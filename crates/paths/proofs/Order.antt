@@ -13,8 +13,8 @@ use Rattle.paths.specs.Ways.{Turn, first, second, Move, eat, turn, Step,
 use Rattle.ground.specs.Lists.{each}
 use Rattle.paths.specs.Search.{paths}
 use Rattle.paths.specs.Situation.{quiet, bite, follow, on-quiet, on-byte, every}
-pub use Rattle.paths.proofs.Common.{Ordered}
-use Rattle.paths.proofs.Common.{ordered-each}
+pub use Rattle.ground.proofs.Members.{Ordered}
+use Rattle.ground.proofs.Members.{ordered-each}
 use Rattle.paths.proofs.Member.{mem→has, not→hasnt, mem-or-not}
 use Rattle.paths.proofs.Heart.{each-each}
 use Rattle.paths.proofs.Faithful.{onto, Trail, Quiet, each-cases, follow-cases, all-at, QuietStep, quiet-steps, Bite, bites, Reached, sound, every-sound}

@@ -13,7 +13,8 @@ use Rattle.net.specs.File.{rec-bytes}
 use Rattle.pattern.specs.Pat.{Pat, startAt, compile}
 use Rattle.pattern.specs.Reader.{Res, ok, form, deep, barred}
 use Rattle.pattern.specs.Writing.{bytes, coded, sized, Room}
-use Rattle.pattern.proofs.Laws.{same-default, in-text, true-false}
+use Rattle.pattern.proofs.Laws.{same-default, in-text}
+use Rattle.ground.proofs.Tests.{true-false}
 
 pub start-some : (k n f : ℕ) → (k ≡ 0 → ⊥) → n ≡ startAt k n f
 start-some zero n f h = absurd (h refl)

@@ -11,6 +11,7 @@ use lib.ListN.{length, getD, drop, length-drop, List·getD-eq-default}
 use lib.Dec.{T, eqb, leb}
 use borrow.Author.Tests.{eqb-true, eqb-false, eq-eqb, ne-eqb, leb-true, leb-false, le-leb, lt-leb}
 use Rattle.ground.specs.Pick.{pick, look}
+use Rattle.ground.proofs.Tests.{true-false}
 use Rattle.ground.proofs.Picks.{same-inside, in-list, test-in}
 use Rattle.pattern.specs.Pat.{Pat, size}
 use Rattle.pattern.specs.Pat.Pat.{Empty, Byte, Any, Set, Tag, Seq, Alt, Star, Plus, Opt}
@@ -54,9 +55,6 @@ byte-in s i n h t = in-text s i (λ e. go (sym (eqb-true (look s i) n t) ∙ e))
   where
     go : n ≡ 256 → ⊥
     go q = omega arith
-
-pub true-false : _≡_ {A = Bool} true false → ⊥
-true-false z = subst T z tt
 
 -- a test that 256 passes fails only within the text
 pub false-in : (s : List ℕ) (i : ℕ) (f : ℕ → Bool) → f 256 ≡ true → f (look s i) ≡ false → i < length s

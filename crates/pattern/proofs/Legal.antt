@@ -5,7 +5,8 @@ use mathlib.Core.List.{List, [], _∷_, _++_}
 use native.Mathlib.Omega.{arith}
 use lib.ListN.{length, getD, length-append}
 use Rattle.net.specs.Rec.{Rec, range, mask, fork, tag, end}
-use Rattle.net.specs.File.{Every, Fits, Legal}
+use Rattle.net.specs.File.{Fits, Legal}
+use Rattle.ground.specs.Lists.{Every}
 use Rattle.pattern.specs.Pat.{Pat, size, startAt, compile, automaton}
 use Rattle.pattern.specs.Pat.Pat.{Empty, Byte, Any, Set, Tag, Seq, Alt, Star, Plus, Opt}
 use Rattle.pattern.specs.Reader.{ok, alts, read}

@@ -1,4 +1,3 @@
-pub mod Common
 pub mod Words
 pub mod SetSteps
 pub mod Masks

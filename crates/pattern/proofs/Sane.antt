@@ -8,7 +8,7 @@ use lib.ListN.{length, getD, drop}
 use lib.Dec.{eqb, leb}
 use borrow.Author.Tests.{eqb-false, leb-true}
 use Rattle.ground.specs.Pick.{look}
-use Rattle.net.specs.File.{Bytes}
+use Rattle.ground.specs.Lists.{Bytes}
 use Rattle.pattern.specs.Pat.{Pat, size}
 use Rattle.pattern.specs.Pat.Pat.{Empty, Byte, Any, Set, Tag, Seq, Alt, Star, Plus, Opt}
 use Rattle.pattern.specs.Sets.{Scanned, listing, wrong, scan, fresh, allows, octet, octets, maskOf}

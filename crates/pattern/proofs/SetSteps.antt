@@ -25,7 +25,8 @@ use Rattle.pattern.specs.declared.sets.Gain.{Gain}
 use Rattle.pattern.specs.declared.sets.Gain.the-variants.{Class}
 use Rattle.pattern.proofs.sets.Stand.{the-type}
 use Rattle.pattern.proofs.sets.Word as word
-use Rattle.pattern.proofs.Common.{or-false, or-assoc, part-more}
+use Rattle.ground.proofs.Tests.{or-false, or-assoc}
+use Rattle.ground.proofs.Lists.{part-more}
 
 -- where the stand is known
 pub led : (s : List ℕ) (i : ℕ) (st st′ : Stand) (x : Step) (c : ℕ) (r : Stand) → st ≡ st′ → setOn (stands s i st′) c ≡ x → Stepped s i x r → Stepped s i (setOn (stands s i st) c) r

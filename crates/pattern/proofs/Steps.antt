@@ -22,7 +22,8 @@ use Rattle.pattern.specs.declared.reading.Sum.{Sum}
 use Rattle.pattern.specs.declared.reading.Read.{Read}
 use Rattle.pattern.specs.declared.reading.Read.the-variants.{Ok, Form, Deep}
 use Rattle.pattern.proofs.reading.Read.{the-type}
-use Rattle.pattern.proofs.Laws.{true-false, Good, Went, adv, went, read-good, read-step, in-text, byte-in, alts-step, alts-one, alts-more, seq-none, seq-some, piece-step, piece-ok, atom-lone, atom-deep, atom-group, atom-closed}
+use Rattle.pattern.proofs.Laws.{Good, Went, adv, went, read-good, read-step, in-text, byte-in, alts-step, alts-one, alts-more, seq-none, seq-some, piece-step, piece-ok, atom-lone, atom-deep, atom-group, atom-closed}
+use Rattle.ground.proofs.Tests.{true-false}
 
 abbrev pub Refused : Read → Type 0
 Refused (Ok e m) = ⊥

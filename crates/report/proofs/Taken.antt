@@ -10,7 +10,8 @@ use lib.Dec.{ltb, leb}
 use borrow.Author.Tests.{ltb-false}
 use Rattle.ground.specs.Pick.{pick}
 use Rattle.net.specs.Rec.{Net}
-use Rattle.net.specs.File.{Bytes, Legal}
+use Rattle.net.specs.File.{Legal}
+use Rattle.ground.specs.Lists.{Bytes}
 use Rattle.net.specs.Items.{NetRead, net, refused, netOf, NetFault, net-kind, net-short, net-field, net-extra, number}
 use Rattle.net.proofs.Inverse.{written}
 use Rattle.pattern.specs.Pat.{size}

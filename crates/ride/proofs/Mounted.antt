@@ -14,7 +14,7 @@ use Rattle.card.specs.Run.{rowFor, noRow}
 use Rattle.card.specs.Decode.{cmdAt, cmdsAt, afterAt, rowAt, rowsAt}
 use Rattle.card.specs.declared.RowItem.{RowItem}
 use Rattle.card.specs.declared.RowItem.the-variants.{Leads, Ends}
-use Rattle.card.proofs.Common.{lt-or-le}
+use Rattle.ground.proofs.Tests.{lt-or-le}
 use Rattle.card.specs.declared.Order.{Order}
 use Rattle.card.specs.declared.Order.the-variants.{Move, Put, Stop}
 use Rattle.card.proofs.Laws.{at-end, cmds-step, put-facts}

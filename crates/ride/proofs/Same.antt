@@ -11,10 +11,11 @@ use lib.Dec.{eqb}
 use borrow.Author.Tests.{eq-eqb, ne-eqb, lt-ltb, le-ltb}
 use Rattle.ground.specs.Pick.{pick}
 use Rattle.card.specs.Table.{Cmd, Row, Sit, Table, FormedSit, Formed}
-use Rattle.card.specs.Run.{Bank, reg, absent, lineMax, empties, Out, ok, stuck, apply, State, at, lost, arrive, sit, rowFor, rowIn, step, run, begun, over, AllBytes, Line, Told, refused, placeAt, told, ends, tells}
+use Rattle.card.specs.Run.{Bank, reg, absent, lineMax, empties, Out, ok, stuck, apply, State, at, lost, arrive, sit, rowFor, rowIn, step, run, begun, over, Line, Told, refused, placeAt, told, ends, tells}
+use Rattle.ground.specs.Lists.{Bytes}
+use Rattle.ground.proofs.Tests.{lt-or-le}
 use Rattle.card.specs.Decode.{cmdsAt, rowsAt, sitAt, tableAt, placesOf}
 use Rattle.card.specs.Judged.{Judged}
-use Rattle.card.proofs.Common.{lt-or-le}
 use Rattle.loader.specs.Flow.{Ready}
 use Rattle.loader.proofs.Shape.{in-table, leads-in, next-in}
 use Rattle.loader.proofs.Situated.{table-long, sit-here, rows-here, room-here, count-most}
@@ -126,7 +127,7 @@ module _ {s old image : List ℕ} (j : Judged s 0) (m : Imaged s old image) wher
       by (inl e) = ap (arrive n) e
       by (inr e) = absurd (found (ap (λ (o : Out). run (tableAt s) (arrive n o) p w) e ∙ run-lost (tableAt s) p w))
 
-  same-way : (w : List ℕ) (q : ℕ) (bank : Bank) (p : ℕ) → q < getD s 4 0 → AllBytes w → (run (tableAt s) (at q bank) p w ≡ lost → ⊥)
+  same-way : (w : List ℕ) (q : ℕ) (bank : Bank) (p : ℕ) → q < getD s 4 0 → Bytes w → (run (tableAt s) (at q bank) p w ≡ lost → ⊥)
       → ridesFrom s image q bank p w ≡ ends (tableAt s) (run (tableAt s) (at q bank) p w)
   unfolding ridesFrom run step
   same-way [] q bank p l b found = same-end l bank
@@ -152,7 +153,7 @@ module _ {s old image : List ℕ} (j : Judged s 0) (m : Imaged s old image) wher
 
 -- ---- the law
 
-fitted : {s old image : List ℕ} → Judged s 0 → 257 * getD s 4 0 ≤ length old → Imaged s old image → (w : List ℕ) → AllBytes w
+fitted : {s old image : List ℕ} → Judged s 0 → 257 * getD s 4 0 ≤ length old → Imaged s old image → (w : List ℕ) → Bytes w
     → (length w ≤ lineMax) ⊎ (lineMax < length w) → Runs s w (ridden s image w)
 fitted {s} {old} {image} j r m w b (inl l) =
     subst (Runs s w) (sym (same-line j m w (b, l)) ∙ ridden-on s image w refl (λ z. omega (arith, table-long s, is-formed j .0 .some)) (omega (arith, m .long)) l)
@@ -164,13 +165,13 @@ short-or-long : (n : ℕ) → (n ≤ lineMax) ⊎ (lineMax < n)
 short-or-long n = ⊎-elim (λ (h : lineMax < n). inr h) (λ (h : n ≤ lineMax). inl h) (lt-or-le lineMax n)
 
 -- with the image that mounting wrote, a ride answers what a run may answer
-pub ride-runs : {s old image : List ℕ} {c : ℕ} → Mounts s old image c → c ≡ 0 → (w : List ℕ) → AllBytes w → Runs s w (ridden s image w)
+pub ride-runs : {s old image : List ℕ} {c : ℕ} → Mounts s old image c → c ≡ 0 → (w : List ℕ) → Bytes w → Runs s w (ridden s image w)
 ride-runs (unfit c j n) z w b = absurd (n z)
 ride-runs (small j l) z w b = absurd (omega arith)
 ride-runs (written image j r m) z w b = fitted j r m w b (short-or-long (length w))
 
 -- and a run answers one thing alone
-pub ride-is-run : {s old image : List ℕ} {c : ℕ} → Mounts s old image c → c ≡ 0 → (w : List ℕ) → AllBytes w → {t : Told} → Runs s w t → ridden s image w ≡ t
+pub ride-is-run : {s old image : List ℕ} {c : ℕ} → Mounts s old image c → c ≡ 0 → (w : List ℕ) → Bytes w → {t : Told} → Runs s w t → ridden s image w ≡ t
 ride-is-run m z w b r = runs-one (ride-runs m z w b) r
 
 -- a second result that meets a ride's promise is equal

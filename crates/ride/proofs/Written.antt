@@ -8,7 +8,7 @@ use mathlib.Core.List.{List}
 use lib.ListN.{length, getD, set, length-set}
 use lib.Seq.{getD-set-same, getD-set-other, ext-getD}
 use Rattle.card.specs.Decode.{placesOf}
-use Rattle.card.proofs.Common.{lt-or-le}
+use Rattle.ground.proofs.Tests.{lt-or-le}
 use Rattle.ride.specs.Image.{spotAt, entryAt, Imaged}
 use Rattle.ride.specs.Need.{RowImaged, Mountable}
 use Rattle.ride.proofs.Spots.{spot-on}

@@ -1,6 +1,6 @@
 -- `loader::holds` meets its contract: the test is that of the bit. Assumes nothing.
 use Prim.Native.Nat.{_/_, _%_, _^_}
-use Rattle.loader.specs.Flow.{bitOf}
+use Rattle.ground.specs.Bits.{bitOf}
 use Rattle.loader.proofs.Listing.{says-equal}
 use borrow.Author.Needs.{needs}
 use Rattle.loader.proofs.holds.Statement.{statement}
@@ -10,7 +10,6 @@ shr-result : tie.Need-shr-result
 shr-result c = search needs
 
 returns : tie.Need-returns
-unfolding bitOf
 returns c = says-equal (c .args .m / 2 ^ (c .args .r) % 2) 1
 
 pub holds-spec : {M : Type 1} → statement M

@@ -8,7 +8,7 @@ use Rattle.ground.specs.Pick.{pick}
 use Rattle.pattern.specs.Sets as sets
 use Rattle.pattern.specs.Sets.{item}
 use Rattle.pattern.specs.Standing.{stands, Sound}
-use Rattle.pattern.proofs.Common.{take-none}
+use Rattle.ground.proofs.Lists.{take-none}
 use borrow.Author.Needs.{needs}
 use Rattle.pattern.proofs.sets.begins.Statement.{statement}
 use Rattle.pattern.proofs.sets.begins.Tie as tie

@@ -1,6 +1,6 @@
 -- `bars` meets its contract. Assumes nothing.
 use mathlib.Core.Path.{refl, sym, _∙_}
-use Rattle.pattern.proofs.Common.{past}
+use Rattle.ground.proofs.Tests.{past}
 use borrow.Author.Needs.{needs}
 use Rattle.pattern.proofs.text.bars.Statement.{statement}
 use Rattle.pattern.proofs.text.bars.Tie as tie

@@ -1,7 +1,7 @@
 -- `repeats` meets its contract. Assumes nothing.
 use mathlib.Core.Path.{refl}
 use borrow.Author.Tests.{eq-eqb, ne-eqb}
-use Rattle.pattern.proofs.Common.{past}
+use Rattle.ground.proofs.Tests.{past}
 use Rattle.pattern.proofs.text.repeats.Statement.{statement}
 use Rattle.pattern.proofs.text.repeats.Tie as tie
 

@@ -1,7 +1,7 @@
 -- `stops_at` meets its contract. Assumes nothing.
 use mathlib.Core.Path.{refl}
 use borrow.Author.Tests.{eq-eqb, ne-eqb}
-use Rattle.pattern.proofs.Common.{past}
+use Rattle.ground.proofs.Tests.{past}
 use Rattle.pattern.proofs.text.stops_at.Statement.{statement}
 use Rattle.pattern.proofs.text.stops_at.Tie as tie
 

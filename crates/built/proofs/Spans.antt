@@ -6,22 +6,19 @@ use mathlib.Core.List.{List, [], _∷_, _++_, List·Memᴰ, List·Memᴰ·head, 
 use Prim.Native.Nat.{ℕ, zero, suc, _+_, _<_}
 use native.Mathlib.Omega.{arith}
 use lib.ListN.{length, getD, replicate}
+use Rattle.ground.proofs.Tests.{both-yes}
 use Rattle.paths.specs.Equal.{same-list}
 use Rattle.paths.specs.Limits.{bytes, Input}
-use Rattle.card.specs.Run.{AllBytes}
+use Rattle.ground.specs.Lists.{Bytes}
 use Rattle.explore.specs.Lists.{span, position}
 
--- ---- tests
-
-pub and-true : (a b : Bool) → a && b ≡ true → (a ≡ true) × (b ≡ true)
-and-true true b e = (refl, e)
-and-true false b e = let z : _≡_ {A = ℕ} 0 1 = cc in absurd (omega arith)
+-- ---- lists compared
 
 pub list-eq : {A : Type 0} (f : A → A → Bool) → ((x y : A) → f x y ≡ true → x ≡ y) → (l k : List A) → same-list f l k ≡ true → l ≡ k
 list-eq f h [] [] e = refl
 list-eq f h [] (y ∷ k) e = let z : _≡_ {A = ℕ} 0 1 = cc in absurd (omega arith)
 list-eq f h (x ∷ l) [] e = let z : _≡_ {A = ℕ} 0 1 = cc in absurd (omega arith)
-list-eq f h (x ∷ l) (y ∷ k) e = let a = and-true (f x y) (same-list f l k) e in ap₂ (λ x l. x ∷ l) (h x y (a .0)) (list-eq f h l k (a .1))
+list-eq f h (x ∷ l) (y ∷ k) e = let a = both-yes (f x y) (same-list f l k) e in ap₂ (λ x l. x ∷ l) (h x y (a .0)) (list-eq f h l k (a .1))
 
 -- ---- what is in a list of equal ones, and the place of an element
 
@@ -51,7 +48,7 @@ unfolding span bytes
 span-bytes k zero = refl
 span-bytes k (suc n) = ap (λ l. k ∷ l) (span-bytes (k + 1) n)
 
-pub input-of : (w : List ℕ) → AllBytes w → Input w
+pub input-of : (w : List ℕ) → Bytes w → Input w
 input-of [] h b m = absurd (elim m [ ])
 input-of (c ∷ w) h b m = by (λ k. input-of w (h .1) b k) (List·Memᴰ·cases-cons m)
   where
@@ -59,10 +56,6 @@ input-of (c ∷ w) h b m = by (λ k. input-of w (h .1) b k) (List·Memᴰ·cases
     by ih (inl e) = rw e (h .0)
     by ih (inr k) = ih k
 
-pub of-input : (w : List ℕ) → Input w → AllBytes w
+pub of-input : (w : List ℕ) → Input w → Bytes w
 of-input [] h = tt
 of-input (b ∷ w) h = (h b (List·Memᴰ·head refl), of-input w (λ c m. h c (List·Memᴰ·tail m)))
-
-pub bytes-more : (w : List ℕ) (b : ℕ) → AllBytes w → b < 256 → AllBytes (w ++ (b ∷ []))
-bytes-more [] b h k = (k, tt)
-bytes-more (c ∷ w) b h k = (h .0, bytes-more w b (h .1) k)

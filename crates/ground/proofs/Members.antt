@@ -1,4 +1,4 @@
--- Lists: `each`, and one list that is the beginning of another. Assumes nothing.
+-- Members of lists, one list that is the beginning of another, and lists in order. Assumes nothing.
 use mathlib.Core.Path.{_≡_, refl, sym, ap, ap₂, _∙_, subst}
 use mathlib.Core.Logic.{_⊎_, inl, inr}
 use mathlib.Core.List.{List, [], _∷_, _++_, map, append-nil, append-assoc, List·Memᴰ, List·Memᴰ·head, List·Memᴰ·tail, List·Memᴰ·cases-cons, List·Memᴰ·append-cases, Memᴰ·append-left, Memᴰ·append-right}
@@ -6,13 +6,10 @@ use Prim.Native.Nat.{ℕ, zero, suc, _≤_, _<_}
 use native.Mathlib.Omega.{arith}
 use lib.ListN.{length, getD, take, drop, take-append-drop, length-append, List·getD-append}
 use lib.Seq.{take-append-le}
 use Rattle.ground.specs.Lists.{each}
+use Rattle.ground.proofs.Lists.{each-append, map-append}
 
--- ---- `each`, `map`
-
-pub each-append : {A B : Type 0} (f : A → List B) (l k : List A) → each f (l ++ k) ≡ each f l ++ each f k
-each-append f [] k = refl
-each-append f (x ∷ l) k = ap (λ r. f x ++ r) (each-append f l k) ∙ sym (append-assoc (f x) (each f l) (each f k))
+-- ---- members of `each` and `map`
 
 pub each-each : {A B C : Type 0} (g : B → List C) (f : A → List B) (l : List A) → each g (each f l) ≡ each (λ x. each g (f x)) l
 each-each g f [] = refl
@@ -29,10 +26,6 @@ each-cases {A} g (x ∷ l) {y} m = by (λ k. each-cases g l k) (List·Memᴰ·ap
 pub each-has : {A B : Type 0} (g : A → List B) {l : List A} {x : A} {y : B} → List·Memᴰ x l → List·Memᴰ y (g x) → List·Memᴰ y (each g l)
 each-has g (List·Memᴰ·head {xs = xs} e) k = Memᴰ·append-left (each g xs) (rw e at k)
 each-has g (List·Memᴰ·tail {x = x} m) k = Memᴰ·append-right (g x) (each-has g m k)
-
-pub map-append : {A B : Type 0} (f : A → B) (l k : List A) → map f (l ++ k) ≡ map f l ++ map f k
-map-append f [] k = refl
-map-append f (x ∷ l) k = ap (λ r. f x ∷ r) (map-append f l k)
 
 pub map-has : {A B : Type 0} (f : A → B) {x : A} {l : List A} → List·Memᴰ x l → List·Memᴰ (f x) (map f l)
 map-has f (List·Memᴰ·head e) = List·Memᴰ·head (ap f e)

@@ -1,4 +1,4 @@
--- The bits of numbers. Assumes nothing.
+-- Sets of numbers below 64 as the bits of one. Assumes nothing.
 use Prim.Native.Nat.{ℕ, zero, suc, _+_, _-_, _*_, _/_, _%_, _^_, _<_, _≤_, min, max}
 use native.Mathlib.Omega.{arith}
 use native.Mathlib.Nat.{zero-div, mod-lt, div-add-mod'}
@@ -9,71 +9,26 @@ use mathlib.Core.Logic.{_⊎_, inl, inr}
 use lib.Dec.{lit<}
 use lib.Arith.{lt-one}
 use lib.Pow.{shr-shr, shr-lt, pow-pos}
-use lib.Bits.{bitOr, bitXor, bitAnd, differ, or-step, or-zero-l, and-zero-l, or-shr, xor-shr, and-shr, or-mod, xor-mod, and-mod, and-lt}
+use lib.Bits.{bitOr, bitAnd, or-step, and-zero-l, and-shr, and-mod, and-lt}
 use lib.Count.{ones, ones-step, ones-cat}
-use Rattle.loader.specs.Flow.{bitOf}
-
--- ---- a bit of two numbers joined
-
-bit2 : (x : ℕ) → x < 2 → (x ≡ 0) ⊎ (x ≡ 1)
-bit2 zero l = inl refl
-bit2 (suc zero) l = inr refl
-bit2 (suc (suc x)) l = absurd (omega arith)
-
-pub bit-two : (n r : ℕ) → (bitOf n r ≡ 0) ⊎ (bitOf n r ≡ 1)
-unfolding bitOf
-bit-two n r = bit2 (n / 2 ^ r % 2) (mod-lt (n / 2 ^ r) (lit< tt))
-
--- the operations on single bits
-or2 : (x y : ℕ) → x < 2 → y < 2 → bitOr x y ≡ max x y
-or2 zero y _ _ = or-zero-l y ∙ omega arith
-or2 (suc zero) zero _ _ = refl
-or2 (suc zero) (suc zero) _ _ = refl
-or2 (suc zero) (suc (suc y)) _ l = absurd (omega arith)
-or2 (suc (suc x)) y l _ = absurd (omega arith)
-
-xor2 : (x y : ℕ) → x < 2 → y < 2 → bitXor x y ≡ differ x y
-xor2 zero zero _ _ = refl
-xor2 zero (suc zero) _ _ = refl
-xor2 zero (suc (suc y)) _ l = absurd (omega arith)
-xor2 (suc zero) zero _ _ = refl
-xor2 (suc zero) (suc zero) _ _ = refl
-xor2 (suc zero) (suc (suc y)) _ l = absurd (omega arith)
-xor2 (suc (suc x)) y l _ = absurd (omega arith)
-
-pub or-bit : (a b r : ℕ) → bitOf (bitOr a b) r ≡ max (bitOf a r) (bitOf b r)
-unfolding bitOf
-or-bit a b r =
-    ap (λ (x : ℕ). x % 2) (or-shr a b r) ∙ or-mod (a / 2 ^ r) (b / 2 ^ r) 1
-    ∙ or2 _ _ (mod-lt (a / 2 ^ r) (lit< tt)) (mod-lt (b / 2 ^ r) (lit< tt))
-
-pub xor-bit : (a b r : ℕ) → bitOf (bitXor a b) r ≡ differ (bitOf a r) (bitOf b r)
-unfolding bitOf
-xor-bit a b r =
-    ap (λ (x : ℕ). x % 2) (xor-shr a b r) ∙ xor-mod (a / 2 ^ r) (b / 2 ^ r) 1
-    ∙ xor2 _ _ (mod-lt (a / 2 ^ r) (lit< tt)) (mod-lt (b / 2 ^ r) (lit< tt))
+use Rattle.ground.specs.Bits.{bitOf}
+use Rattle.ground.proofs.Bits.{bit-lt, bit-two, bit-suc, or-bit}
 
 -- ---- single bits
 
-pub bit-zero : (r : ℕ) → bitOf 0 r ≡ 0
-unfolding bitOf
-bit-zero r = rw (zero-div)
+pub zero-bit : (r : ℕ) → bitOf 0 r ≡ 0
+zero-bit r = rw (zero-div)
 
 pub not-both : (n r : ℕ) → bitOf n r ≡ 0 → bitOf n r ≡ 1 → ⊥
 not-both n r e f = let z : _≡_ {A = ℕ} 0 1 = sym e ∙ f in omega arith
 
 bit-first : (n b : ℕ) → b < 2 → bitOf (n * 2 + b) 0 ≡ b
-unfolding bitOf
 bit-first n b l = omega arith
 
 bit-next : (n b r : ℕ) → b < 2 → bitOf (n * 2 + b) (suc r) ≡ bitOf n r
-unfolding bitOf
 bit-next n b r l =
     ap (λ (e : ℕ). (n * 2 + b) / 2 ^ e % 2) (omega arith)
     ∙ ap (λ (m : ℕ). m % 2) (sym (shr-shr (n * 2 + b) 1 r) ∙ ap (λ (m : ℕ). m / 2 ^ r) (omega arith))
-
-bit-half : (n r : ℕ) → bitOf n (suc r) ≡ bitOf (n / 2) r
-bit-half n r = ap (λ (m : ℕ). bitOf m (suc r)) (sym (div-add-mod' n 2)) ∙ bit-next (n / 2) (n % 2) r (mod-lt n (lit< tt))
 
 two : (k : ℕ) → 2 ^ suc k ≡ 2 ^ k * 2 + 0
 two k = omega arith
@@ -84,7 +39,7 @@ bit-same (suc t) = ap (λ (n : ℕ). bitOf n (suc t)) (two t) ∙ bit-next (2 ^ 
 
 pub bit-other : (t r : ℕ) → (t ≡ r → ⊥) → bitOf (2 ^ t) r ≡ 0
 bit-other zero zero d = absurd (d refl)
-bit-other zero (suc r) d = bit-next 0 1 r (omega arith) ∙ bit-zero r
+bit-other zero (suc r) d = bit-next 0 1 r (omega arith) ∙ zero-bit r
 bit-other (suc t) zero d = ap (λ (n : ℕ). bitOf n 0) (two t) ∙ bit-first (2 ^ t) 0 (omega arith)
 bit-other (suc t) (suc r) d =
     ap (λ (n : ℕ). bitOf n (suc r)) (two t) ∙ bit-next (2 ^ t) 0 r (omega arith) ∙ bit-other t r (λ e. d (ap suc e))
@@ -98,9 +53,9 @@ ones-in (suc k) zero l = ap (λ (n : ℕ). bitOf n 0) (all-ones k) ∙ bit-first
 ones-in (suc k) (suc r) l = ap (λ (n : ℕ). bitOf n (suc r)) (all-ones k) ∙ bit-next (2 ^ k - 1) 1 r (omega arith) ∙ ones-in k r (omega arith)
 
 pub bit-in : (k n r : ℕ) → n < 2 ^ k → bitOf n r ≡ 1 → r < k
-bit-in zero n r l b = let z : n ≡ 0 = omega arith in absurd (not-both 0 r (bit-zero r) (subst (λ (m : ℕ). bitOf m r ≡ 1) z b))
+bit-in zero n r l b = let z : n ≡ 0 = omega arith in absurd (not-both 0 r (zero-bit r) (subst (λ (m : ℕ). bitOf m r ≡ 1) z b))
 bit-in (suc k) n zero l b = omega arith
-bit-in (suc k) n (suc r) l b = let i = bit-in k (n / 2) r (omega arith) (sym (bit-half n r) ∙ b) in omega arith
+bit-in (suc k) n (suc r) l b = let i = bit-in k (n / 2) r (omega arith) (sym (bit-suc n r) ∙ b) in omega arith
 
 -- a number that is not 0 has a bit
 pub some-bit : (k n : ℕ) → n < 2 ^ k → (n ≡ 0 → ⊥) → (r : ℕ) × (bitOf n r ≡ 1)
@@ -114,7 +69,7 @@ some-bit (suc k) n l d = one (some-bit k (n / 2) (omega arith)) (bit-two n 0)
     one f (inr e) = (0, e)
     one f (inl e) =
         let i = f (λ z. d (omega (arith, low, e, z, div-add-mod' n 2))) in
-        (suc (i .0), bit-half n (i .0) ∙ i .1)
+        (suc (i .0), bit-suc n (i .0) ∙ i .1)
 
 and2 : (x y : ℕ) → x < 2 → y < 2 → bitAnd x y ≡ min x y
 and2 zero y _ _ = and-zero-l y ∙ omega arith
@@ -124,7 +79,6 @@ and2 (suc zero) (suc (suc y)) _ l = absurd (omega arith)
 and2 (suc (suc x)) y l _ = absurd (omega arith)
 
 both : (a b r : ℕ) → bitOf (bitAnd a b) r ≡ min (bitOf a r) (bitOf b r)
-unfolding bitOf
 both a b r =
     ap (λ (x : ℕ). x % 2) (and-shr a b r) ∙ and-mod (a / 2 ^ r) (b / 2 ^ r) 1
     ∙ and2 _ _ (mod-lt (a / 2 ^ r) (lit< tt)) (mod-lt (b / 2 ^ r) (lit< tt))
@@ -145,15 +99,11 @@ or-one a b r e = pick-one (bit-two a r) (bit-two b r)
     pick-one (inl h) (inr k) = inr k
     pick-one (inl h) (inl k) = absurd (omega (arith, or-none a b r h k, e))
 
-bit-le : (n r : ℕ) → bitOf n r < 2
-unfolding bitOf
-bit-le n r = mod-lt (n / 2 ^ r) (lit< tt)
-
 pub or-left : (a b r : ℕ) → bitOf a r ≡ 1 → bitOf (bitOr a b) r ≡ 1
-or-left a b r e = omega (arith, or-bit a b r, bit-le b r)
+or-left a b r e = omega (arith, or-bit a b r, bit-lt b r)
 
 pub or-right : (a b r : ℕ) → bitOf b r ≡ 1 → bitOf (bitOr a b) r ≡ 1
-or-right a b r e = omega (arith, or-bit a b r, bit-le a r)
+or-right a b r e = omega (arith, or-bit a b r, bit-lt a r)
 
 pub and-bit : (a b r : ℕ) → bitOf a r ≡ 1 → bitOf b r ≡ 1 → bitOf (bitAnd a b) r ≡ 1
 and-bit a b r e f = both a b r ∙ simp (e, f)
@@ -162,7 +112,7 @@ pub and-bits : (a b : ℕ) → a < 2 ^ 64 → b < 2 ^ 64 → (bitAnd a b ≡ 0 �
 and-bits a b la lb n =
     let k = some-bit 64 (bitAnd a b) (and-lt 64 a b la lb) n in
     let m : min (bitOf a (k .0)) (bitOf b (k .0)) ≡ 1 = sym (both a b (k .0)) ∙ k .1 in
-    (k .0, (omega (arith, bit-le a (k .0)), omega (arith, bit-le b (k .0))))
+    (k .0, (omega (arith, bit-lt a (k .0)), omega (arith, bit-lt b (k .0))))
 
 -- ---- how many
 
