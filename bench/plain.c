@@ -656,20 +656,31 @@ uint8_t plain_run(const uint8_t *table, size_t len, const uint8_t *line, size_t 
 }
 
 /*
- * An image word: bits 0 to 6 the next situation, 7 and 8 the kind of list (0 none, 1 SETs only, 2 with a MOVE, 3 one
- * SET), from 9 on where the list stands, or the one SET's register; 0 without a list, so that a word that stays without
+ * An image word: bits 0 to 6 the next situation, 7 and 8 the kind of list (0 none, 1 SETs only, 2 with a MOVE, 3 a
+ * block), from 9 on where the list stands, or the block's numbers; 0 without a list, so that a word that stays without
  * commands is the situation's own number. Behind the words of all situations, one word each where the situation's item
- * stands.
+ * stands. A block: SETs of k registers from a on, then MOVEs of the n registers after them from those from f on, which
+ * are no higher; one SET alone is its register.
  */
+static uint32_t block_bits(const uint8_t *b, size_t at, size_t end, int *found) {
+    uint32_t a = b[at + 1], k = 0, f = 0, n = 0;
+    for (; at < end && b[at] == 0x25 && b[at + 1] == a + k; at += 2) k++;
+    if (at < end && b[at] == 0x24) f = b[at + 2];
+    for (; at < end && b[at] == 0x24 && b[at + 1] == a + k + n && b[at + 2] == f + n; at += 3) n++;
+    *found = at == end && 1 <= k && k <= 32 && f <= a + k;
+    return a + 64 * (k - 1) + 2048 * n + 131072 * f;
+}
+
 static uint32_t image_word(const card *c, size_t row, size_t *after) {
     uint64_t wrote, read;
     size_t cmds = row + 4;
     *after = list(c, cmds, 1, &wrote, &read);
     uint32_t next = c->bytes[row + 3];
     if (*after == cmds) return next;
-    if (read) return next | 2u << 7 | (uint32_t)cmds << 9;
-    if (*after == cmds + 2) return next | 3u << 7 | (uint32_t)c->bytes[cmds + 1] << 9;
-    return next | 1u << 7 | (uint32_t)cmds << 9;
+    int block;
+    uint32_t bits = block_bits(c->bytes, cmds, *after, &block);
+    if (block) return next | 3u << 7 | bits << 9;
+    return next | (read ? 2u : 1u) << 7 | (uint32_t)cmds << 9;
 }
 
 uint8_t plain_mount(const uint8_t *table, size_t len, uint32_t *image, size_t image_len) {
@@ -689,6 +700,12 @@ uint8_t plain_mount(const uint8_t *table, size_t len, uint32_t *image, size_t im
     return OK;
 }
 
+static void obey_block(size_t w, int16_t place, int16_t bank[64]) {
+    size_t a = w % 64, k = w / 64 % 32 + 1, n = w / 2048 % 64, f = w / 131072;
+    memmove(bank + a + k, bank + f, n * sizeof *bank);
+    for (size_t i = a; i < a + k; i++) bank[i] = place;
+}
+
 static void obey(const uint8_t *table, size_t len, uint32_t e, int16_t place, int16_t bank[64]) {
     size_t at = e >> 9;
     switch (e >> 7 & 3) {
@@ -699,7 +716,10 @@ static void obey(const uint8_t *table, size_t len, uint32_t e, int16_t place, in
         apply_at(table, len, at, place, bank);
         break;
     case 3:
-        bank[at] = place;
+        if (at < 64)
+            bank[at] = place;
+        else
+            obey_block(at, place, bank);
         break;
     }
 }

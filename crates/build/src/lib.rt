@@ -17,6 +17,8 @@ ghost use Rattle.explore.specs.Explore.{Kept, Told};
 ghost use Rattle.build.specs.Card.{same-cmd, commands, most, sit-of, card-of};
 ghost use Rattle.build.specs.Writing.{order-of, orders-of, command, row-of, Wrote, Closed, Does, alike-deeds, Given, Goes-on, rows-bytes, sits-bytes, Ends, All, Needs};
 ghost use Rattle.build.specs.Build.{refusal, Makes, Attempts, Builds};
+use answers::OUT_SMALL;
+use answers::WORK_SMALL;
 use explore::Closing;
 use explore::Found;
 use explore::Regs;
@@ -502,7 +504,7 @@ fn lay(file: &[u8], offs: &[usize], news: &[u8], tags: u8, work: &mut [u8], out:
     let mut nowhere = [0u8; 1];
     let length = emit_table(file, offs, news, work, &mut nowhere, tags, n);
     if out.len() < length {
-        return refuse(12);
+        return refuse(OUT_SMALL);
     }
     emit_table(file, offs, news, work, out, tags, n);
     let m = most_of(work, n);
@@ -531,7 +533,7 @@ fn attempt(file: &[u8], work: &mut [u8], out: &mut [u8]) -> Built
     ensures { λ a. ⌜ Attempts (now (file .entry)) (length (now (work .entry))) (now (out .entry)) (now (out .exit)) a ⌝ }
 {
     if work.len() < 65536 {
-        return refuse(9);
+        return refuse(WORK_SMALL);
     }
     let p = net::places(file);
     if p.code != 0 {

@@ -8,6 +8,7 @@ use mathlib.Core.Option.{Option}
 use Prim.Native.Nat.{ℕ, zero, suc, _<_}
 use native.Mathlib.Omega.{arith}
 use lib.ListN.{length, getD}
+use Rattle.ground.proofs.Every.{bytes-at}
 use Rattle.net.specs.Rec.{Net}
 use Rattle.ground.specs.Lists.{Bytes}
 use Rattle.paths.specs.Ways.{Accepted, Accepts, Move, Answer}
@@ -35,11 +36,6 @@ use Rattle.grammar.proofs.ReadSpells.{read-spells-16}
 use Rattle.grammar.proofs.Answered.{maker-exactly}
 use Rattle.language.specs.Words.{language}
 use Rattle.language.proofs.Laws.{compile-language}
-
-all-bytes : (s : List ℕ) → Bytes s → (i : ℕ) → getD s i 0 < 256
-all-bytes [] b i = omega arith
-all-bytes (x ∷ s) b zero = b .0
-all-bytes (x ∷ s) b (suc i) = all-bytes s (b .1) i
 
 -- "a record is accepted by an admissible path exactly if by any path"
 pub cutting-loses-nothing : (A : Net) (w : List ℕ) (e : ℕ) → ((ms : List Move) × Accepts A w ms e) ↔ Accepted A w e
@@ -83,7 +79,7 @@ module _ (text : List ℕ) (b : Bytes text) (p : Pat) (legible : Legible text p)
   pub text-fits : Fits (tags p) (automaton p)
   text-fits =
       let r = read-spells-16 text b p .1 (legible .spells, legible .shallow) in
-      fits-exactly .1 (read-legal text (all-bytes text b) (length text) p r small, registers, situations)
+      fits-exactly .1 (read-legal text (bytes-at text b) (length text) p r small, registers, situations)
 
   pub text-answers : (w : List ℕ) → Line w → {t : Told} → Runs (bytesOf (tableOf (tags p) (automaton p))) w t → Tells (automaton p) w t
   text-answers w line r = built-table-answers text-fits w line r

@@ -2,12 +2,12 @@
 use mathlib.Core.Path.{_≡_, refl, sym, ap, _∙_, subst}
 use mathlib.Core.Bool.{Bool, true, false, _&&_, cond}
 use mathlib.Core.List.{List, [], _∷_, _++_, map, foldl, append-nil}
-use Prim.Native.Nat.{ℕ, zero, suc, _+_, _-_, _/_, _%_, _^_, _≤_, _<_}
+use Prim.Native.Nat.{ℕ, zero, suc, _+_, _*_, _-_, _/_, _%_, _^_, _≤_, _<_}
 use native.Mathlib.Omega.{arith}
 use native.Mathlib.Numerals.{add-one}
 use lib.Dec.{eqb, leb}
-use lib.ListN.{length, getD, take, drop}
-use lib.Seq.{getD-take, getD-drop, take-suc}
+use lib.ListN.{length, getD, take, drop, set, length-set}
+use lib.Seq.{getD-take, getD-drop, take-suc, getD-set-same}
 use borrow.Author.Tests.{eq-eqb, ne-eqb, le-leb, lt-leb}
 use Rattle.net.specs.Rec.{Rec, range, mask, fork, tag, end, Net, rec, bit}
 use Rattle.paths.specs.Ways.{Move, eat}
@@ -21,11 +21,14 @@ use Rattle.paths.proofs.Heart.{each-append}
 use Rattle.net.specs.Items.{rec-at, net-at}
 use Rattle.net.proofs.Inside.{net-length}
 use Rattle.explore.specs.Items.{Inside, Formed, lands}
-use Rattle.explore.specs.States.{Below, Fit, thread-of, threads-of, Means}
+use Rattle.explore.specs.States.{Below, Fit, thread-of, threads-of}
+use Rattle.explore.specs.Slots.{threads-at, slot}
+use Rattle.explore.specs.Visit.{Ready, Means}
 use Rattle.explore.specs.declared.Entry.{Entry}
 use Rattle.explore.specs.declared.Found.{Found}
 use Rattle.explore.proofs.Reading.{net-inside}
 use Rattle.explore.proofs.Bits.{map-append}
+use Rattle.explore.proofs.Memory.{slot-first}
 
 module _ (b lo hi n : ℕ) where
   pub range-in-it : lo ≤ b → b ≤ hi → n ≡ lands (bite b (range lo hi n))
@@ -92,8 +95,8 @@ module _ (k : ℕ) (A : Net) (b : ℕ) (e : Entry) where
   eats-one q a p1 p2 = rw (q, p1, p2)
 
 -- the two ways through `consume`
-module _ {F offs : List ℕ} (w : Formed F offs) (k b : ℕ) (e : Entry) (on : e .on < length offs) (x : ℕ) (lands-on : x ≡ lands (bite b (rec (net-at F offs) (e .on)))) (f : Found) where
-  pub ate-none : x ≡ 255 → (m : Marked Tags) → Means f m → Means f (foldl (marking (tagged k) (net-at F offs) (suc (length (net-at F offs)))) m (on-byte (tagged k) (net-at F offs) b (thread-of e)))
+module _ {F offs : List ℕ} (w : Formed F offs) (k b : ℕ) (e : Entry) (on : e .on < length offs) (x : ℕ) (lands-on : x ≡ lands (bite b (rec (net-at F offs) (e .on)))) (M l : List ℕ) (c : ℕ) where
+  pub ate-none : x ≡ 255 → (m : Marked Tags) → Means M l c m → Means M l c (foldl (marking (tagged k) (net-at F offs) (suc (length (net-at F offs)))) m (on-byte (tagged k) (net-at F offs) b (thread-of e)))
   ate-none z m h =
       let q = eats-none k (net-at F offs) b e (bite-none (length offs) b x (rec (net-at F offs) (e .on)) (w .few) (net-inside w (e .on) on) lands-on z) in
       rw q h
@@ -102,9 +105,9 @@ module _ {F offs : List ℕ} (w : Formed F offs) (k b : ℕ) (e : Entry) (on : e
     pub ate-in : a .on < length offs
     ate-in = rw p1 (bite-some (length offs) b x (rec (net-at F offs) (e .on)) (net-inside w (e .on) on) lands-on z .1)
 
-    pub ate-one : (R : Found) → ((m : Marked Tags) → Means f m → Means R (marking (tagged k) (net-at F offs) (length offs + 1) m (thread-of a)))
-        → (m : Marked Tags) → Means f m → Means R (foldl (marking (tagged k) (net-at F offs) (suc (length (net-at F offs)))) m (on-byte (tagged k) (net-at F offs) b (thread-of e)))
-    ate-one R ih m h =
+    pub ate-one : (M1 l1 : List ℕ) (c1 : ℕ) → ((m : Marked Tags) → Means M l c m → Means M1 l1 c1 (marking (tagged k) (net-at F offs) (length offs + 1) m (thread-of a)))
+        → (m : Marked Tags) → Means M l c m → Means M1 l1 c1 (foldl (marking (tagged k) (net-at F offs) (suc (length (net-at F offs)))) m (on-byte (tagged k) (net-at F offs) b (thread-of e)))
+    ate-one M1 l1 c1 ih m h =
         let q = eats-one k (net-at F offs) b e (bite-some (length offs) b x (rec (net-at F offs) (e .on)) (net-inside w (e .on) on) lands-on z .0) a p1 p2 in
         let n : suc (length (net-at F offs)) ≡ length offs + 1 = omega (arith, net-length F offs) in
         rw (q, n) (ih m h)
@@ -129,12 +132,19 @@ below-at N (x ∷ l) zero i d s b h = absurd (omega arith)
 below-at N (x ∷ l) (suc n) zero d s b h = h .0
 below-at N (x ∷ l) (suc n) (suc i) d s b h = below-at N l n i d (omega arith) (omega arith) (h .1)
 
+-- one thread more
+pub means-more : (k : ℕ) (A : Net) (b : ℕ) (l : List Entry) (i : ℕ) (d : Entry) → i < length l → {M w : List ℕ} {n : ℕ}
+    → Means M w n (foldl (marking (tagged k) A (suc (length A))) (foldl (marking (tagged k) A (suc (length A))) (record { marks = []; list = [] }) (each (on-byte (tagged k) A b) (map thread-of (take i l)))) (on-byte (tagged k) A b (thread-of (getD l i d))))
+    → Means M w n (foldl (marking (tagged k) A (suc (length A))) (record { marks = []; list = [] }) (each (on-byte (tagged k) A b) (map thread-of (take (i + 1) l))))
+means-more k A b l i d s {M} {w} {n} h =
+    subst (λ v. Means M w n v) (sym (one-more (marking (tagged k) A (suc (length A))) (record { marks = []; list = [] }) (on-byte (tagged k) A b) l i d s)) h
+
 -- the end of `sweep`
-pub swept : (k : ℕ) (A : Net) (b : ℕ) (s f : Found) (i : ℕ) → i ≡ s .n
-    → Means f (foldl (marking (tagged k) A (suc (length A))) (record { marks = []; list = [] }) (each (on-byte (tagged k) A b) (map thread-of (take i (s .list)))))
-    → threads-of f ≡ step A k b (threads-of s)
+pub swept : (k : ℕ) (A : Net) (b : ℕ) (s : Found) (M l : List ℕ) (c i : ℕ) → i ≡ s .n
+    → Means M l c (foldl (marking (tagged k) A (suc (length A))) (record { marks = []; list = [] }) (each (on-byte (tagged k) A b) (map thread-of (take i (s .list)))))
+    → threads-at l 2 c ≡ step A k b (threads-of s)
 unfolding threads-of step marked-close
-swept k A b s f i z h =
+swept k A b s M l c i z h =
     h .list
     ∙ ap (λ j. foldl (marking (tagged k) A (suc (length A))) (record { marks = []; list = [] }) (each (on-byte (tagged k) A b) (map thread-of (take j (s .list)))) .list) z
     ∙ ap (λ v. v .list) (marked-right (tagged k) A (each (on-byte (tagged k) A b) (map thread-of (take (s .n) (s .list)))))
@@ -142,3 +152,18 @@ swept k A b s f i z h =
 pub fit-below : (N : ℕ) (f : Found) → Fit N f → Below N (map thread-of (take (f .n) (f .list)))
 unfolding threads-of
 fit-below N f h = h .below
+
+-- the list of `visit`, with its count, can be loaded
+pub loadable : (N : ℕ) (M w : List ℕ) (n : ℕ) → Ready N M w n → (578 * 0 + 578 ≤ length (set w 0 n)) × (getD (set w 0 n) (578 * 0) 0 ≤ 64)
+loadable N M w n h =
+    let s = length-set w 0 n in
+    let g = getD-set-same w 0 n 0 (omega (arith, h .size)) in
+    (omega (arith, h .size), omega (arith, h .room, h .few))
+
+-- the list of `visit`, loaded
+module _ (N : ℕ) (M w : List ℕ) (n : ℕ) (h : Ready N M w n) (f : Found) (few : f .n ≤ 64) (e : threads-of f ≡ slot (set w 0 n) 0) where
+  pub loaded : threads-of f ≡ threads-at w 2 n
+  loaded = e ∙ slot-first w n (h .size)
+
+  pub loaded-fit : Fit N f
+  loaded-fit = record { few = few; below = rw loaded (h .below) }

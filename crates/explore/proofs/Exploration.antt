@@ -27,7 +27,7 @@ use Rattle.explore.specs.declared.Found.{Found}
 use Rattle.explore.specs.declared.Numbered.{Numbered}
 use Rattle.explore.specs.declared.Tried.{Tried}
 use Rattle.explore.proofs.Bits.{map-append}
-use Rattle.explore.proofs.Memory.{thread-at-same}
+use Rattle.explore.proofs.Memory.{threads-at-same}
 
 put-known : (found : List Sit) (s : Sit) → among same-situation s found ≡ true → put same-situation found s ≡ found
 put-known found s e = rw e
@@ -58,14 +58,6 @@ slots-same : (w w′ : List ℕ) (n : ℕ) → ((j : ℕ) → j < n → slot w�
 slots-same w w′ n h =
     ext-getD [] (slots w′ 0 n) (slots w 0 n) (slots-length w′ 0 n ∙ sym (slots-length w 0 n))
     (λ i b. let c : i < n = omega (arith, slots-length w′ 0 n) in slots-at w′ 0 n i [] c ∙ (let z : 0 + i ≡ i = omega arith in ap (slot w′) z ∙ h i c ∙ ap (slot w) (sym z)) ∙ sym (slots-at w 0 n i [] c))
-
-threads-at-same : (w w′ : List ℕ) (a n : ℕ) → ((k : ℕ) → a ≤ k → k < a + 9 * n → getD w′ k 0 ≡ getD w k 0) → threads-at w′ a n ≡ threads-at w a n
-unfolding threads-at
-threads-at-same w w′ a zero h = refl
-threads-at-same w w′ a (suc n) h =
-    let p = thread-at-same w w′ a (λ k u v. h k u (omega arith)) in
-    let q = threads-at-same w w′ (a + 9) n (λ k u v. h k (omega arith) (omega arith)) in
-    λ i. p i ∷ q i
 
 -- what a store leaves of the slots before it
 module _ (w w′ : List ℕ) (n : ℕ) (l : Sit) (c : ℕ) (s : Stored w w′ n l c) (j : ℕ) (b : j < n) (few : getD w (578 * j) 0 ≤ 64) where

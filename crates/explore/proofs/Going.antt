@@ -4,10 +4,10 @@ use mathlib.Core.Logic.{_⊎_, inl, inr}
 use mathlib.Core.Bool.{true, false}
 use mathlib.Core.List.{List, [], _∷_, _++_, foldl}
 use mathlib.Core.Option.{some}
-use Prim.Native.Nat.{ℕ, zero, suc, _+_, _-_, _<_}
+use Prim.Native.Nat.{ℕ, zero, suc, _+_, _*_, _-_, _<_}
 use native.Mathlib.Omega.{arith}
 use lib.Dec.{eqb}
-use lib.ListN.{length, set}
+use lib.ListN.{length, set, replicate}
 use borrow.Author.Tests.{ne-eqb, eqb-true, eqb-false}
 use Rattle.net.specs.Rec.{Rec, range, mask, fork, tag, end, Net, rec}
 use Rattle.paths.specs.Search.{has, Thread}
@@ -16,14 +16,17 @@ use Rattle.paths.specs.Registers.{Tags, tagged, stands}
 use Rattle.paths.specs.Marks.{Marked, marked-with, marking}
 use Rattle.paths.proofs.Member.{Bool-cases}
 use Rattle.explore.specs.Onward.{onward-of}
-use Rattle.explore.specs.States.{Below, opt, tags-of, thread-of, threads-of, marked, count-of, Marked-by, Ready, Means, Put}
+use Rattle.explore.specs.States.{Below, opt, tags-of, thread-of, threads-of, marked, count-of, Marked-by}
+use Rattle.explore.specs.Slots.{threads-at, Put-at}
+use Rattle.explore.specs.Visit.{Ready, Means}
 use Rattle.explore.specs.declared.Entry.{Entry}
 use Rattle.explore.specs.declared.Found.{Found}
 use Rattle.explore.specs.declared.Onward.the-variants.{Stay, Both, Store}
 use Rattle.net.specs.Items.{net-at}
 use Rattle.explore.specs.Items.{Formed}
 use Rattle.explore.proofs.Reading.{net-inside}
-use Rattle.explore.proofs.Bits.{map-set, has-last, has-else}
+use Rattle.explore.proofs.Bits.{map-set, has-last, has-else, ones-le, zeros-unmarked}
+use Rattle.explore.proofs.Memory.{listed, no-threads}
 
 -- a way tells the record
 
@@ -68,25 +71,21 @@ module _ (k : ℕ) (A : Net) where
     marking-new zero h e = absurd (h refl)
     marking-new (suc n) h e = let p : n ≡ suc n - 1 = omega arith in rw e (ap (λ j. foldl (marking (tagged k) A j) (marked-with (tagged k) A m s) (on-quiet (tagged k) A s)) p)
 
-  module _ (f : Found) (e : Entry) (g : Found) (by : Marked-by (f .marks) (e .on) (g .marks)) (same-n : g .n ≡ f .n) (same-list : g .list ≡ f .list) where
-    threads-same : threads-of g ≡ threads-of f
-    unfolding threads-of
-    threads-same = rw (same-n, same-list)
-
-    marks-noted : (m : Marked Tags) → Means f m → (r : ℕ) → r < 64 → has r (m .marks ++ (e .on ∷ [])) ≡ marked (g .marks) r
+  module _ (M w : List ℕ) (c : ℕ) (e : Entry) (M′ : List ℕ) (by : Marked-by M (e .on) M′) where
+    marks-noted : (m : Marked Tags) → Means M w c m → (r : ℕ) → r < 64 → has r (m .marks ++ (e .on ∷ [])) ≡ marked M′ r
     marks-noted m h r b = go (Bool-cases (eqb r (e .on)))
       where
-        go : (eqb r (e .on) ≡ true) ⊎ (eqb r (e .on) ≡ false) → has r (m .marks ++ (e .on ∷ [])) ≡ marked (g .marks) r
+        go : (eqb r (e .on) ≡ true) ⊎ (eqb r (e .on) ≡ false) → has r (m .marks ++ (e .on ∷ [])) ≡ marked M′ r
         go (inl q) = rw (eqb-true r (e .on) q) (has-last (m .marks) (e .on) ∙ sym (by .here))
         go (inr q) = has-else (m .marks) r (e .on) (eqb-false r (e .on) q) ∙ h .marks r b ∙ sym (by .else r (eqb-false r (e .on) q))
 
-    pub noted-means : stands (rec A (e .on)) ≡ false → (m : Marked Tags) → Means f m → Means g (marked-with (tagged k) A m (thread-of e))
+    noted-means : stands (rec A (e .on)) ≡ false → (m : Marked Tags) → Means M w c m → Means M′ w c (marked-with (tagged k) A m (thread-of e))
     unfolding thread-of
-    noted-means q m h = record { marks = marks-noted m h; list = rw q (threads-same ∙ h .list) }
+    noted-means q m h = record { marks = marks-noted m h; list = rw q (h .list) }
 
-    pub put-means : stands (rec A (e .on)) ≡ true → (p : Found) → Put g e p → (m : Marked Tags) → Means f m → Means p (marked-with (tagged k) A m (thread-of e))
+    put-means : stands (rec A (e .on)) ≡ true → (w′ : List ℕ) → Put-at w w′ (2 + 9 * c) e → (m : Marked Tags) → Means M w c m → Means M′ w′ (c + 1) (marked-with (tagged k) A m (thread-of e))
     unfolding thread-of
-    put-means q p u m h = record { marks = λ r b. marks-noted m h r b ∙ ap (λ v. marked v r) (sym (u .marks)); list = rw q (u .list ∙ ap (λ v. v ++ (thread-of e ∷ [])) (threads-same ∙ h .list)) }
+    put-means q w′ u m h = record { marks = marks-noted m h; list = rw q (listed w w′ c e u ∙ ap (λ v. v ++ (thread-of e ∷ [])) (h .list)) }
 
   on-fork : (e : Entry) {x y : ℕ} → rec A (e .on) ≡ fork x y → (a b : Entry) → a .on ≡ x → a .had ≡ e .had → b .on ≡ y → b .had ≡ e .had
       → on-quiet (tagged k) A (thread-of e) ≡ thread-of a ∷ thread-of b ∷ []
@@ -103,69 +102,68 @@ module _ (k : ℕ) (A : Net) where
   on-none e q = rw q
 
   -- the ways through `visit`, where it finds a new record
-  module _ (n : ℕ) (pos : n ≡ 0 → ⊥) (f : Found) (e : Entry) (g : Found) (in64 : e .on < 64) (new : marked (f .marks) (e .on) ≡ false)
-      (by : Marked-by (f .marks) (e .on) (g .marks)) (same-n : g .n ≡ f .n) (same-list : g .list ≡ f .list) where
-    expand : (m : Marked Tags) → Means f m
+  module _ (n : ℕ) (pos : n ≡ 0 → ⊥) (M w : List ℕ) (c : ℕ) (e : Entry) (M′ : List ℕ) (in64 : e .on < 64) (new : marked M (e .on) ≡ false) (by : Marked-by M (e .on) M′) where
+    expand : (m : Marked Tags) → Means M w c m
         → marking (tagged k) A n m (thread-of e) ≡ foldl (marking (tagged k) A (n - 1)) (marked-with (tagged k) A m (thread-of e)) (on-quiet (tagged k) A (thread-of e))
     unfolding thread-of
     expand m h = marking-new (thread-of e) m n pos (h .marks (e .on) in64 ∙ new)
 
-    pub went-both : {x y : ℕ} → rec A (e .on) ≡ fork x y → (a b : Entry) → a .on ≡ x → a .had ≡ e .had → b .on ≡ y → b .had ≡ e .had
-        → (h R : Found)
-        → ((m : Marked Tags) → Means g m → Means h (marking (tagged k) A (n - 1) m (thread-of a)))
-        → ((m : Marked Tags) → Means h m → Means R (marking (tagged k) A (n - 1) m (thread-of b)))
-        → (m : Marked Tags) → Means f m → Means R (marking (tagged k) A n m (thread-of e))
-    went-both q a b p1 p2 p3 p4 h R ih1 ih2 m w =
-        subst (λ v. Means R v) (sym (expand m w ∙ ap (λ l. foldl (marking (tagged k) A (n - 1)) (marked-with (tagged k) A m (thread-of e)) l) (on-fork e q a b p1 p2 p3 p4)))
-        (ih2 _ (ih1 _ (noted-means f e g by same-n same-list (rw q refl) m w)))
+    pub went-both : {x y : ℕ} → Both x y ≡ onward-of (rec A (e .on)) → (a b : Entry) → (a .on ≡ x) × (a .had ≡ e .had) → (b .on ≡ y) × (b .had ≡ e .had)
+        → (M1 w1 : List ℕ) (c1 : ℕ) (M2 w2 : List ℕ) (c2 : ℕ)
+        → ((m : Marked Tags) → Means M′ w c m → Means M1 w1 c1 (marking (tagged k) A (n - 1) m (thread-of a)))
+        → ((m : Marked Tags) → Means M1 w1 c1 m → Means M2 w2 c2 (marking (tagged k) A (n - 1) m (thread-of b)))
+        → (m : Marked Tags) → Means M w c m → Means M2 w2 c2 (marking (tagged k) A n m (thread-of e))
+    went-both o a b p r M1 w1 c1 M2 w2 c2 ih1 ih2 m h =
+        let q = way-both (rec A (e .on)) o in
+        subst (λ v. Means M2 w2 c2 v) (sym (expand m h ∙ ap (λ l. foldl (marking (tagged k) A (n - 1)) (marked-with (tagged k) A m (thread-of e)) l) (on-fork e q a b (p .0) (p .1) (r .0) (r .1))))
+        (ih2 _ (ih1 _ (noted-means M w c e M′ by (rw q refl) m h)))
 
-    pub went-store : {t x : ℕ} → k < 255 → rec A (e .on) ≡ tag t x → (a : Entry) → a .on ≡ x → a .had ≡ set (e .had) t k
-        → (R : Found)
-        → ((m : Marked Tags) → Means g m → Means R (marking (tagged k) A (n - 1) m (thread-of a)))
-        → (m : Marked Tags) → Means f m → Means R (marking (tagged k) A n m (thread-of e))
-    went-store b q a p1 p2 R ih m w =
-        subst (λ v. Means R v) (sym (expand m w ∙ ap (λ l. foldl (marking (tagged k) A (n - 1)) (marked-with (tagged k) A m (thread-of e)) l) (on-tag e b q a p1 p2)))
-        (ih _ (noted-means f e g by same-n same-list (rw q refl) m w))
+    pub went-store : {t x : ℕ} → k < 255 → Store t x ≡ onward-of (rec A (e .on)) → (a : Entry) → a .on ≡ x → a .had ≡ set (e .had) t k
+        → (M1 w1 : List ℕ) (c1 : ℕ)
+        → ((m : Marked Tags) → Means M′ w c m → Means M1 w1 c1 (marking (tagged k) A (n - 1) m (thread-of a)))
+        → (m : Marked Tags) → Means M w c m → Means M1 w1 c1 (marking (tagged k) A n m (thread-of e))
+    went-store b o a p1 p2 M1 w1 c1 ih m h =
+        let q = way-store (rec A (e .on)) o in
+        subst (λ v. Means M1 w1 c1 v) (sym (expand m h ∙ ap (λ l. foldl (marking (tagged k) A (n - 1)) (marked-with (tagged k) A m (thread-of e)) l) (on-tag e b q a p1 p2)))
+        (ih _ (noted-means M w c e M′ by (rw q refl) m h))
 
-    pub stayed : Stay ≡ onward-of (rec A (e .on)) → (R : Found) → Put g e R
-        → (m : Marked Tags) → Means f m → Means R (marking (tagged k) A n m (thread-of e))
-    stayed q R u m w =
+    pub stayed : Stay ≡ onward-of (rec A (e .on)) → (w′ : List ℕ) → Put-at w w′ (2 + 9 * c) e
+        → (m : Marked Tags) → Means M w c m → Means M′ w′ (c + 1) (marking (tagged k) A n m (thread-of e))
+    stayed q w′ u m h =
         let z = way-stay (rec A (e .on)) q in
-        subst (λ v. Means R v) (sym (expand m w ∙ ap (λ l. foldl (marking (tagged k) A (n - 1)) (marked-with (tagged k) A m (thread-of e)) l) (on-none e (z .0))))
-        (put-means f e g by same-n same-list (z .1) R u m w)
+        subst (λ v. Means M′ w′ (c + 1) v) (sym (expand m h ∙ ap (λ l. foldl (marking (tagged k) A (n - 1)) (marked-with (tagged k) A m (thread-of e)) l) (on-none e (z .0))))
+        (put-means M w c e M′ by (z .1) w′ u m h)
 
-  pub went-none : (n : ℕ) → n ≡ 0 → (f : Found) (e : Entry) (m : Marked Tags) → Means f m → Means f (marking (tagged k) A n m (thread-of e))
-  went-none n z f e m w = subst (λ v. Means f v) (sym (marking-none (thread-of e) m z)) w
+  module _ (n : ℕ) (M w : List ℕ) (c : ℕ) (e : Entry) (m : Marked Tags) (h : Means M w c m) where
+    pub went-none : n ≡ 0 → Means M w c (marking (tagged k) A n m (thread-of e))
+    went-none z = subst (λ v. Means M w c v) (sym (marking-none (thread-of e) m z)) h
 
-  pub went-known : (n : ℕ) → (n ≡ 0 → ⊥) → (f : Found) (e : Entry) → e .on < 64 → marked (f .marks) (e .on) ≡ true → (m : Marked Tags) → Means f m → Means f (marking (tagged k) A n m (thread-of e))
-  unfolding thread-of
-  went-known n z f e b known m w = subst (λ v. Means f v) (sym (marking-known (thread-of e) m n z (w .marks (e .on) b ∙ known))) w
+    pub went-known : (n ≡ 0 → ⊥) → e .on < 64 → marked M (e .on) ≡ true → Means M w c (marking (tagged k) A n m (thread-of e))
+    unfolding thread-of
+    went-known z b known = subst (λ v. Means M w c v) (sym (marking-known (thread-of e) m n z (h .marks (e .on) b ∙ known))) h
 
 pub below-append : (N : ℕ) (l k : List (Thread Tags)) → Below N l → Below N k → Below N (l ++ k)
 below-append N [] k a b = b
 below-append N (s ∷ l) k a b = (a .0, below-append N l k (a .1) b)
 
 -- a mark is set, and the list stays; then e comes after it
-module _ (N : ℕ) (f g : Found) (r : ℕ) (h : Ready N f) (new : marked (f .marks) r ≡ false) (by : Marked-by (f .marks) r (g .marks)) (same-n : g .n ≡ f .n) where
-  pub room-after : (g .n < 64) × (g .n < count-of (g .marks))
-  room-after = (omega (arith, by .more new, by .room, h .room), omega (arith, by .more new, h .room))
+module _ (N : ℕ) (M w : List ℕ) (n r : ℕ) (M′ : List ℕ) (h : Ready N M w n) (new : marked M r ≡ false) (by : Marked-by M r M′) where
+  pub room-after : n < 64
+  room-after = omega (arith, by .more new, by .room, h .room)
 
-  module _ (same-list : g .list ≡ f .list) where
-    kept : threads-of g ≡ threads-of f
-    unfolding threads-of
-    kept = rw (same-n, same-list)
+  pub ready-noted : Ready N M′ w n
+  ready-noted = record { wide = by .size ∙ h .wide; size = h .size; room = omega (arith, by .more new, h .room); few = by .room; below = h .below }
 
-    pub ready-noted : Ready N g
-    ready-noted = let q = room-after in record { fit = record { few = omega arith; below = rw kept (h .fit .below) }; room = omega arith }
-
-    pub ready-put : (e : Entry) → e .on < N → (p : Found) → Put g e p → Ready N p
-    unfolding thread-of
-    ready-put e b p u =
-        let q = room-after in
-        record {
-          fit = record { few = omega (arith, u .count); below = rw (u .list, kept) (below-append N (threads-of f) _ (h .fit .below) (b, tt)) };
-          room = omega (arith, u .count, ap count-of (u .marks));
-        }
+  pub ready-put : (e : Entry) → e .on < N → (w′ : List ℕ) → Put-at w w′ (2 + 9 * n) e → Ready N M′ w′ (n + 1)
+  unfolding thread-of
+  ready-put e b w′ u =
+      record {
+        wide = by .size ∙ h .wide;
+        size = u .size ∙ h .size;
+        room = omega (arith, by .more new, h .room);
+        few = by .room;
+        below = rw (listed w w′ n e u) (below-append N (threads-at w 2 n) _ (h .below) (b, tt));
+      }
 
 module _ {F offs : List ℕ} (w : Formed F offs) (r : ℕ) (b : r < length offs) where
   pub both-inside : {x y : ℕ} → Both x y ≡ onward-of (rec (net-at F offs) r) → (x < length offs) × (y < length offs)
@@ -175,13 +173,14 @@ module _ {F offs : List ℕ} (w : Formed F offs) (r : ℕ) (b : r < length offs)
   store-inside e = rw (way-store (rec (net-at F offs) r) e) at (net-inside w r b)
 
 -- nothing yet
-module _ (f : Found) (z : f .n ≡ 0) where
-  pub none-yet : threads-of f ≡ []
-  unfolding threads-of
-  none-yet = rw z
+pub none-yet : (f : Found) → f .n ≡ 0 → threads-of f ≡ []
+unfolding threads-of
+none-yet f z = rw z
 
-  pub new-ready : (N : ℕ) → Ready N f
-  new-ready N = record { fit = record { few = omega arith; below = rw none-yet tt }; room = omega arith }
+module _ (w : List ℕ) where
+  pub new-ready : (N : ℕ) → length w ≡ 578 → Ready N (replicate 64 0) w 0
+  unfolding count-of
+  new-ready N h = record { wide = refl; size = h; room = omega arith; few = omega (arith, ones-le (replicate 64 0)); below = rw (no-threads w 2) tt }
 
-  pub new-means : ((r : ℕ) → marked (f .marks) r ≡ false) → Means f (record { marks = []; list = [] })
-  new-means h = record { marks = λ r b. sym (h r); list = none-yet }
+  pub new-means : Means (replicate 64 0) w 0 (record { marks = []; list = [] })
+  new-means = record { marks = λ r b. sym (zeros-unmarked 64 r); list = no-threads w 2 }

@@ -153,6 +153,10 @@ unfolding threads-at
 threads-at-length w a zero = refl
 threads-at-length w a (suc n) = ap suc (threads-at-length w (a + 9) n)
 
+pub no-threads : (w : List ℕ) (a : ℕ) → threads-at w a 0 ≡ []
+unfolding threads-at
+no-threads w a = refl
+
 pub threads-at-at : (w : List ℕ) (a n i : ℕ) (d : Thread Tags) → i < n → getD (threads-at w a n) i d ≡ thread-at w (a + 9 * i)
 unfolding threads-at
 threads-at-at w a zero i d b = absurd (omega arith)
@@ -166,6 +170,25 @@ threads-snoc w a n = ap (threads-at w a) (add-one n) ∙ by a n
     by : (a n : ℕ) → threads-at w a (suc n) ≡ threads-at w a n ++ (thread-at w (a + 9 * n) ∷ [])
     by a zero = let z : a ≡ a + 9 * 0 = omega arith in ap (λ v. thread-at w v ∷ []) z
     by a (suc n) = ap (λ v. thread-at w a ∷ v) (by (a + 9) n ∙ (let z : a + 9 + 9 * n ≡ a + 9 * suc n = omega arith in ap (λ v. threads-at w (a + 9) n ++ (thread-at w v ∷ [])) z))
+
+pub threads-at-same : (w w′ : List ℕ) (a n : ℕ) → ((k : ℕ) → a ≤ k → k < a + 9 * n → getD w′ k 0 ≡ getD w k 0) → threads-at w′ a n ≡ threads-at w a n
+unfolding threads-at
+threads-at-same w w′ a zero h = refl
+threads-at-same w w′ a (suc n) h =
+    let p = thread-at-same w w′ a (λ k u v. h k u (omega arith)) in
+    let q = threads-at-same w w′ (a + 9) n (λ k u v. h k (omega arith) (omega arith)) in
+    λ i. p i ∷ q i
+
+-- the list with an entry after it
+pub listed : (w w′ : List ℕ) (n : ℕ) (e : Entry) → Put-at w w′ (2 + 9 * n) e → threads-at w′ 2 (n + 1) ≡ threads-at w 2 n ++ (thread-of e ∷ [])
+listed w w′ n e p = threads-snoc w′ 2 n ∙ (λ i. threads-at-same w w′ 2 n (λ k u v. p .else k (inl v)) i ++ (p .here i ∷ []))
+
+-- a list becomes a slot by its count
+pub slot-first : (w : List ℕ) (n : ℕ) → length w ≡ 578 → slot (set w 0 n) 0 ≡ threads-at w 2 n
+unfolding slot
+slot-first w n h =
+    ap (threads-at (set w 0 n) 2) (getD-set-same w 0 n 0 (omega arith))
+    ∙ threads-at-same w (set w 0 n) 2 n (λ k u v. getD-set-other w 0 k n 0 (λ z. omega arith))
 
 module _ (s : Found) (few : s .n ≤ length (s .list)) where
   pub threads-of-length : length (threads-of s) ≡ s .n
@@ -334,10 +357,6 @@ none-more w l j h e k c = by (Bool-cases (eqb k j))
     by : (eqb k j ≡ true) ⊎ (eqb k j ≡ false) → same-situation l (slot w k) ≡ false
     by (inl z) = let q = eqb-true k j z in rw q e
     by (inr z) = let q = eqb-false k j z in h k (omega arith)
-
-pub no-threads : (w : List ℕ) (a : ℕ) → threads-at w a 0 ≡ []
-unfolding threads-at
-no-threads w a = refl
 
 pub slot-whole : (w : List ℕ) (j i : ℕ) → i ≡ getD w (578 * j) 0 → threads-at w (578 * j + 2) i ≡ slot w j
 unfolding slot

@@ -19,7 +19,9 @@ use Rattle.paths.proofs.Next.{as-many-registers}
 use Rattle.paths.specs.Registers.{no-tags, tagged, begin, after, situation, step, next, origins, Tags, Key, is, holds, held-by, index, known, note, registers, renamed, rename, number}
 use Rattle.paths.proofs.Member.{Bool-cases}
 use Rattle.paths.proofs.Heart.{each-append}
-use Rattle.explore.specs.States.{opt, tags-of, thread-of, threads-of, Below, Fit, Means}
+use Rattle.explore.specs.States.{opt, tags-of, thread-of, threads-of, Below, Fit}
+use Rattle.explore.specs.Slots.{threads-at}
+use Rattle.explore.specs.Visit.{Means}
 use Rattle.explore.specs.Keys.{key-of, keys-of, Gathers, names, Numbers, Stepped, Begun}
 use Rattle.explore.specs.declared.Entry.{Entry}
 use Rattle.explore.specs.declared.Found.{Found}
@@ -385,6 +387,6 @@ pub first-thread : (e : Entry) → e .on ≡ 0 → e .had ≡ replicate 8 255 �
 unfolding thread-of
 first-thread e p q = rw (p, q)
 
-pub began : (A : Net) (n : ℕ) → n ≡ suc (length A) → (e : Entry) → thread-of e ≡ record { on = 0; had = no-tags } → (f : Found) → Means f (marking (tagged 0) A n (record { marks = []; list = [] }) (thread-of e)) → threads-of f ≡ begin A
+pub began : (A : Net) (n : ℕ) → n ≡ suc (length A) → (e : Entry) → thread-of e ≡ record { on = 0; had = no-tags } → (M l : List ℕ) (c : ℕ) → Means M l c (marking (tagged 0) A n (record { marks = []; list = [] }) (thread-of e)) → threads-at l 2 c ≡ begin A
 unfolding begin marked-close
-began A n z e q f h = h .list ∙ ap (λ v. v .list) ((λ i. marking (tagged 0) A (z i) (record { marks = []; list = [] }) (q i)) ∙ marked-right (tagged 0) A (record { on = 0; had = no-tags } ∷ []))
+began A n z e q M l c h = h .list ∙ ap (λ v. v .list) ((λ i. marking (tagged 0) A (z i) (record { marks = []; list = [] }) (q i)) ∙ marked-right (tagged 0) A (record { on = 0; had = no-tags } ∷ []))

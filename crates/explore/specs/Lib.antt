@@ -4,4 +4,5 @@ pub mod States
 pub mod Onward
 pub mod Keys
 pub mod Slots
+pub mod Visit
 pub mod Explore

@@ -5,12 +5,10 @@ use mathlib.Core.List.{List, [], _∷_, _++_, map}
 use mathlib.Core.Option.{Option, none, some}
 use Prim.Native.Nat.{ℕ, suc, _+_, _≤_, _<_}
 use lib.Dec.{eqb}
-use lib.ListN.{getD, take}
-use Rattle.paths.specs.Search.{has, Thread}
+use lib.ListN.{length, getD, take}
+use Rattle.paths.specs.Search.{Thread}
 use Rattle.paths.specs.Registers.{Tags}
-use Rattle.paths.specs.Marks.{Marked}
 use Rattle.explore.specs.declared.Entry.{Entry}
-use Rattle.explore.specs.declared.Marks.{Marks}
 use Rattle.explore.specs.declared.Found.{Found}
 
 -- 255 is absent
@@ -28,18 +26,19 @@ unfoldable pub threads-of : Found → List (Thread Tags)
 threads-of f = map thread-of (take (f .n) (f .list))
 
 -- M-101 changes these two
-abbrev pub marked : Marks → ℕ → Bool
-marked m r = eqb (getD (m .at) r 0) 1
+abbrev pub marked : List ℕ → ℕ → Bool
+marked m r = eqb (getD m r 0) 1
 
 abbrev pub ones : List ℕ → ℕ
 ones [] = 0
 ones (x ∷ l) = cond (eqb x 1) (suc (ones l)) (ones l)
 
-unfoldable pub count-of : Marks → ℕ
-count-of m = ones (m .at)
+unfoldable pub count-of : List ℕ → ℕ
+count-of m = ones m
 
 -- r is marked, and nothing else changes
-pub record Marked-by (m : Marks) (r : ℕ) (m′ : Marks) : Type 0 where
+pub record Marked-by (m : List ℕ) (r : ℕ) (m′ : List ℕ) : Type 0 where
+  pub size : length m′ ≡ length m
   pub here : marked m′ r ≡ true
   pub else : (q : ℕ) → (q ≡ r → ⊥) → marked m′ q ≡ marked m q
   pub more : marked m r ≡ false → count-of m′ ≡ count-of m + 1
@@ -55,17 +54,7 @@ pub record Fit (N : ℕ) (f : Found) : Type 0 where
   pub few : f .n ≤ 64
   pub below : Below N (threads-of f)
 
--- under way: no more in the list than marks
-pub record Ready (N : ℕ) (f : Found) : Type 0 where
-  pub fit : Fit N f
-  pub room : f .n ≤ count-of (f .marks)
-
-pub record Means (f : Found) (m : Marked Tags) : Type 0 where
-  pub marks : (r : ℕ) → r < 64 → has r (m .marks) ≡ marked (f .marks) r
-  pub list : threads-of f ≡ m .list
-
--- the same list with e after it, and the same marks
+-- the same list with e after it
 pub record Put (f : Found) (e : Entry) (f′ : Found) : Type 0 where
-  pub marks : f′ .marks ≡ f .marks
   pub list : threads-of f′ ≡ threads-of f ++ (thread-of e ∷ [])
   pub count : f′ .n ≡ f .n + 1

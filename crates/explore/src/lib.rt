@@ -18,9 +18,13 @@ ghost use Rattle.net.specs.Items.{net-at};
 ghost use Rattle.explore.specs.Items.{Formed, lands};
 ghost use Rattle.net.specs.Rec.{rec};
 ghost use Rattle.explore.specs.Onward.{onward-of, closing-of};
-ghost use Rattle.explore.specs.States.{thread-of, threads-of, marked, count-of, Marked-by, Fit, Ready, Means, Put, tags-of};
+ghost use Rattle.explore.specs.States.{thread-of, threads-of, marked, Marked-by, Fit, Put, tags-of};
+ghost use Rattle.explore.specs.Visit.{Ready, Means};
+use answers::REGISTERS;
+use answers::SITUATIONS;
 
-// From the records of an automaton file to its situations, in the lent work memory. States go by value.
+// From the records of an automaton file to its situations, in the lent work memory. What is under way between two bytes,
+// marks and a list, is changed in place; a list that is done goes by value.
 // What the public functions ask is shown by `build`: `Formed` comes from the reader of the file, `Kept` from the exploration.
 
 // One thread: the record that it stands on, and for each tag 255 or where its place comes from.
@@ -48,57 +52,34 @@ impl Entry {
     }
 }
 
-// Which records have been visited since the last byte.
-pub struct Marks {
-    pub at: [u8; 64],
+// Which records have been visited since the last byte: 1 where one has.
+fn seen(marks: &[u8; 64], r: u8) -> bool
+    requires { ⌜ r < 64 ⌝ }
+    ensures { λ a. ⌜ a ≡ marked (now (marks .entry)) r ⌝ }
+{
+    marks[r as usize] == 1
 }
 
-impl Marks {
-    fn has(self, r: u8) -> bool
-        requires { ⌜ r < 64 ⌝ }
-        ensures { λ a. ⌜ a ≡ marked self r ⌝ }
-    {
-        self.at[r as usize] == 1
-    }
-
-    fn with(mut self, r: u8) -> Marks
-        requires { ⌜ r < 64 ⌝ }
-        ensures { λ a. ⌜ Marked-by self r a ⌝ }
-    {
-        self.at[r as usize] = 1;
-        self
-    }
+fn mark(marks: &mut [u8; 64], r: u8)
+    requires { ⌜ (length (now marks) ≡ 64) × (r < 64) ⌝ }
+    ensures { λ _. ⌜ Marked-by (now (marks .entry)) r (now (marks .exit)) ⌝ }
+{
+    marks[r as usize] = 1;
 }
 
 pub struct Found {
-    pub marks: Marks,
     pub n: usize,
     pub list: [Entry; 64],
 }
 
 impl Found {
     fn new() -> Found
-        ensures { λ a. ⌜ (a .n ≡ 0) × ((r : ℕ) → marked (a .marks) r ≡ false) ⌝ }
+        ensures { λ a. ⌜ a .n ≡ 0 ⌝ }
     {
         let none = [255u8; 8];
         let e = Entry { on: 0, had: none };
-        let at = [0u8; 64];
         let list = [e; 64];
-        Found {
-            marks: Marks { at },
-            n: 0,
-            list,
-        }
-    }
-
-    fn noted(mut self, r: u8) -> Found
-        requires { ⌜ r < 64 ⌝ }
-        ensures { λ a. ⌜ Marked-by (self .marks) r (a .marks) × ((a .n ≡ self .n) × (a .list ≡ self .list)) ⌝ }
-    {
-        let m = self.marks;
-        let w = m.with(r);
-        self.marks = w;
-        self
+        Found { n: 0, list }
     }
 
     fn put(mut self, e: Entry) -> Found
@@ -135,30 +116,65 @@ fn onward_at(file: &[u8], offs: &[usize], r: u8) -> Onward
     Onward::Stay
 }
 
-// Depth first from e, with what has been found.
-fn visit(file: &[u8], offs: &[usize], stamp: u8, f: Found, e: Entry, fuel: usize) -> Found
+fn put_entry(work: &mut [u8], at: usize, e: Entry)
+    requires { ⌜ at + 9 ≤ length (now work) ⌝ }
+    ensures { λ _. ⌜ Put-at (now (work .entry)) (now (work .exit)) at e ⌝ }
+{
+    work[at] = e.on;
+    let mut t = 0;
+    while t < 8 {
+        work[at + 1 + t] = e.had[t];
+        t += 1;
+    }
+}
+
+// Depth first from e. The marks and the n entries of the list are changed in place; the list has the shape of a slot.
+fn visit(
+    file: &[u8],
+    offs: &[usize],
+    stamp: u8,
+    e: Entry,
+    fuel: usize,
+    marks: &mut [u8; 64],
+    list: &mut [u8],
+    n: usize,
+) -> usize
     requires { ⌜ Formed (now file) (now offs) ⌝ }
-    requires { ⌜ Ready (length (now offs)) f ⌝ }
+    requires { ⌜ Ready (length (now offs)) (now marks) (now list) n ⌝ }
     requires { ⌜ (e .on < length (now offs)) × (stamp < 255) ⌝ }
-    ensures { λ a. ⌜ Ready (length (now (offs .entry))) a × ((m : Marked Tags) → Means f m → Means a (marking (tagged stamp) (net-at (now (file .entry)) (now (offs .entry))) fuel m (thread-of e))) ⌝ }
+    ensures { λ a. ⌜ Ready (length (now (offs .entry))) (now (marks .exit)) (now (list .exit)) a ⌝ }
+    ensures { λ a. ⌜ ((m : Marked Tags) → Means (now (marks .entry)) (now (list .entry)) n m → Means (now (marks .exit)) (now (list .exit)) a (marking (tagged stamp) (net-at (now (file .entry)) (now (offs .entry))) fuel m (thread-of e))) ⌝ }
 {
     if fuel == 0 {
-        return f;
+        return n;
     }
     let r = e.on;
-    let m = f.marks;
-    if m.has(r) {
-        return f;
+    if seen(marks, r) {
+        return n;
     }
-    let g = f.noted(r);
+    mark(marks, r);
     let w = onward_at(file, offs, r);
     match w {
         Onward::Both(x, y) => {
-            let h = visit(file, offs, stamp, g, e.moved(x), fuel - 1);
-            visit(file, offs, stamp, h, e.moved(y), fuel - 1)
+            let k = visit(file, offs, stamp, e.moved(x), fuel - 1, marks, list, n);
+            visit(file, offs, stamp, e.moved(y), fuel - 1, marks, list, k)
         }
-        Onward::Store(t, x) => visit(file, offs, stamp, g, e.tagged(t, stamp).moved(x), fuel - 1),
-        Onward::Stay => g.put(e),
+        Onward::Store(t, x) => {
+            visit(
+                file,
+                offs,
+                stamp,
+                e.tagged(t, stamp).moved(x),
+                fuel - 1,
+                marks,
+                list,
+                n,
+            )
+        }
+        Onward::Stay => {
+            put_entry(list, 2 + 9 * n, e);
+            n + 1
+        }
     }
 }
 
@@ -168,7 +184,7 @@ pub enum Closing {
     With(u8),
 }
 
-// Its caller has r from a list whose records are below the count.
+// `build` shows that r is below the count: it has r from a list of the exploration.
 pub fn end_at(file: &[u8], offs: &[usize], r: u8) -> Closing
     requires { ⌜ Formed (now file) (now offs) ⌝ }
     requires { ⌜ r < length (now offs) ⌝ }
@@ -221,17 +237,28 @@ fn bite_at(file: &[u8], offs: &[usize], r: u8, b: u8) -> u8
 }
 
 // What e leads to by byte b, after what has been found.
-fn consume(file: &[u8], offs: &[usize], stamp: u8, f: Found, e: Entry, b: u8) -> Found
+fn consume(
+    file: &[u8],
+    offs: &[usize],
+    stamp: u8,
+    e: Entry,
+    b: u8,
+    marks: &mut [u8; 64],
+    list: &mut [u8],
+    n: usize,
+) -> usize
     requires { ⌜ Formed (now file) (now offs) ⌝ }
-    requires { ⌜ Ready (length (now offs)) f ⌝ }
+    requires { ⌜ Ready (length (now offs)) (now marks) (now list) n ⌝ }
     requires { ⌜ (e .on < length (now offs)) × (stamp < 255) ⌝ }
-    ensures { λ a. ⌜ Ready (length (now (offs .entry))) a × ((m : Marked Tags) → Means f m → Means a (foldl (marking (tagged stamp) (net-at (now (file .entry)) (now (offs .entry))) (suc (length (net-at (now (file .entry)) (now (offs .entry)))))) m (on-byte (tagged stamp) (net-at (now (file .entry)) (now (offs .entry))) b (thread-of e)))) ⌝ }
+    ensures { λ a. ⌜ Ready (length (now (offs .entry))) (now (marks .exit)) (now (list .exit)) a ⌝ }
+    ensures { λ a. ⌜ ((m : Marked Tags) → Means (now (marks .entry)) (now (list .entry)) n m → Means (now (marks .exit)) (now (list .exit)) a (foldl (marking (tagged stamp) (net-at (now (file .entry)) (now (offs .entry))) (suc (length (net-at (now (file .entry)) (now (offs .entry)))))) m (on-byte (tagged stamp) (net-at (now (file .entry)) (now (offs .entry))) b (thread-of e)))) ⌝ }
 {
     let x = bite_at(file, offs, e.on, b);
     if x == 255 {
-        return f;
+        return n;
     }
-    visit(file, offs, stamp, f, e.moved(x), offs.len() + 1)
+    let fuel = offs.len() + 1;
+    visit(file, offs, stamp, e.moved(x), fuel, marks, list, n)
 }
 
 // All threads of s that consume b, in order, and what they lead to.
@@ -240,15 +267,18 @@ fn sweep(file: &[u8], offs: &[usize], stamp: u8, s: Found, b: u8) -> Found
     requires { ⌜ Fit (length (now offs)) s × (stamp < 255) ⌝ }
     ensures { λ a. ⌜ Fit (length (now (offs .entry))) a × (threads-of a ≡ step (net-at (now (file .entry)) (now (offs .entry))) stamp b (threads-of s)) ⌝ }
 {
-    let n = s.n;
-    let mut f = Found::new();
-    let mut i = 0;
-    while i < n {
+    let m = s.n;
+    let mut marks = [0u8; 64];
+    let mut list = [0u8; 578];
+    let mut n: usize = 0;
+    let mut i: usize = 0;
+    while i < m {
         let e = s.list[i];
-        f = consume(file, offs, stamp, f, e, b);
+        n = consume(file, offs, stamp, e, b, &mut marks, &mut list, n);
         i += 1;
     }
-    f
+    list[0] = n as u8;
+    load(&list, 0)
 }
 
 // A register: a tag, and where its place comes from.
@@ -443,6 +473,7 @@ fn number_of(s: Found) -> Numbered
 }
 
 // The situation after one byte more, and where its registers come from. `count` is how many registers s has.
+// `build` shows what it asks: the file by its reader, and s with its count by `Kept`, as s is a stored situation.
 pub fn next_of(file: &[u8], offs: &[usize], count: u8, s: Found, b: u8) -> Numbered
     requires { ⌜ Formed (now file) (now offs) ⌝ }
     requires { ⌜ Fit (length (now offs)) s × ((count ≡ length (registers (threads-of s))) × (count < 255)) ⌝ }
@@ -457,25 +488,16 @@ fn begin_of(file: &[u8], offs: &[usize]) -> Numbered
     requires { ⌜ 0 < length (now offs) ⌝ }
     ensures { λ a. ⌜ Begun (net-at (now (file .entry)) (now (offs .entry))) (length (now (offs .entry))) a ⌝ }
 {
-    let f = Found::new();
     let had = [255u8; 8];
     let e = Entry { on: 0, had };
-    number_of(visit(file, offs, 0, f, e, offs.len() + 1))
+    let mut marks = [0u8; 64];
+    let mut list = [0u8; 578];
+    let n = visit(file, offs, 0, e, offs.len() + 1, &mut marks, &mut list, 0);
+    list[0] = n as u8;
+    number_of(load(&list, 0))
 }
 
 // ---- the work memory: slot j has the count of records, the count of registers, and nine bytes for each record
-
-fn put_entry(work: &mut [u8], at: usize, e: Entry)
-    requires { ⌜ at + 9 ≤ length (now work) ⌝ }
-    ensures { λ _. ⌜ Put-at (now (work .entry)) (now (work .exit)) at e ⌝ }
-{
-    work[at] = e.on;
-    let mut t = 0;
-    while t < 8 {
-        work[at + 1 + t] = e.had[t];
-        t += 1;
-    }
-}
 
 fn store(work: &mut [u8], j: usize, s: Found, count: u8)
     requires { ⌜ (s .n ≤ 64) × (578 * j + 578 ≤ length (now work)) ⌝ }
@@ -506,7 +528,7 @@ fn entry_at(work: &[u8], at: usize) -> Entry
     Entry { on: work[at], had }
 }
 
-// Situation j, which the exploration has stored.
+// Situation j. Its callers show by `Kept` that the exploration has stored it; a list of `visit` has its count put there.
 pub fn load(work: &[u8], j: usize) -> Found
     requires { ⌜ (578 * j + 578 ≤ length (now work)) × (getD (now work) (578 * j) 0 ≤ 64) ⌝ }
     ensures { λ a. ⌜ (a .n ≤ 64) × (threads-of a ≡ slot (now (work .entry)) j) ⌝ }
@@ -560,7 +582,7 @@ fn same(work: &[u8], j: usize, s: Found) -> bool
     true
 }
 
-// Where s is stored, or the count.
+// Where s is stored, or the count. `build` shows by `Kept` that the memory has the slots, and has s from `next_of`.
 pub fn place(work: &[u8], count: usize, s: Found) -> usize
     requires { ⌜ (578 * count ≤ length (now work)) × (s .n ≤ 64) ⌝ }
     ensures { λ a. ⌜ Placed (now (work .entry)) count (threads-of s) a ⌝ }
@@ -600,7 +622,10 @@ fn try_byte(
 {
     let t = next_of(file, offs, regs, s, b);
     if t.over {
-        return Tried { answer: 10, count };
+        return Tried {
+            answer: REGISTERS,
+            count,
+        };
     }
     let q = t.sit;
     let j = place(work, count, q);
@@ -608,7 +633,10 @@ fn try_byte(
         return Tried { answer: 0, count };
     }
     if 96 <= count {
-        return Tried { answer: 11, count };
+        return Tried {
+            answer: SITUATIONS,
+            count,
+        };
     }
     let r = t.regs;
     let k = r.n;
@@ -638,6 +666,7 @@ fn fresh(file: &[u8], offs: &[usize], b: u8) -> bool
 }
 
 // For every byte 1 where it is fresh, and 0 where every record treats it as the byte before it.
+// `build` has the records from the reader of the file.
 pub fn news(file: &[u8], offs: &[usize]) -> [u8; 256]
     requires { ⌜ Formed (now file) (now offs) ⌝ }
     ensures { λ a. ⌜ Told (net-at (now (file .entry)) (now (offs .entry))) (length (now (offs .entry))) a ⌝ }
@@ -686,7 +715,8 @@ fn expand(
     }
 }
 
-// All situations, from slot 0 on.
+// All situations, from slot 0 on. `build` has the records from the reader of the file, `news` from the function above,
+// and refuses smaller memory.
 pub fn explore(file: &[u8], offs: &[usize], news: &[u8], work: &mut [u8]) -> Tried
     requires { ⌜ Formed (now file) (now offs) × ((0 < length (now offs)) × Told (net-at (now file) (now offs)) (length (now offs)) (now news)) ⌝ }
     requires { ⌜ 65536 ≤ length (now work) ⌝ }
@@ -695,7 +725,7 @@ pub fn explore(file: &[u8], offs: &[usize], news: &[u8], work: &mut [u8]) -> Tri
     let t = begin_of(file, offs);
     if t.over {
         return Tried {
-            answer: 10,
+            answer: REGISTERS,
             count: 0,
         };
     }

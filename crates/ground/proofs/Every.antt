@@ -31,6 +31,11 @@ pub every-weak : {A : Type 0} (P Q : A → Type 0) → ((x : A) → P x → Q x)
 every-weak P Q f [] e = tt
 every-weak P Q f (x ∷ l) e = (f x (e .0), every-weak P Q f l (e .1))
 
+-- a list is of bytes if at every place there is one
+pub all-bytes : (w : List ℕ) → ((i : ℕ) → getD w i 0 < 256) → Bytes w
+all-bytes [] h = tt
+all-bytes (b ∷ w) h = (h 0, all-bytes w (λ i. h (suc i)))
+
 pub bytes-at : (s : List ℕ) → Bytes s → (i : ℕ) → getD s i 0 < 256
 bytes-at [] e i = omega arith
 bytes-at (x ∷ s) e zero = e .0

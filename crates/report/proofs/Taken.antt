@@ -27,8 +27,6 @@ use Rattle.build.proofs.Verdict.{registers-true, situations-true}
 use Rattle.built.specs.Fits.{Fits}
 use Rattle.built.proofs.States.{fits-exactly}
 use Rattle.built.proofs.Answers.{build-taken}
-use Rattle.loader.specs.Judges.{Judges}
-use Rattle.loader.proofs.Judging.{judged-one}
 use Rattle.report.specs.Steps.{Sound}
 
 -- ---- small things
@@ -169,7 +167,3 @@ build-sound {file} {work} {out} {work′} {out′} {a} bytes b =
           subst (λ v. Judged (take (v .length) out′) 0) (sym (b .result))
           (subst (λ l. Judged (take (buildOf file (length work) out .result .length) l) 0) (sym (b .wrote)) (g (sym (ap (λ v. v .code) (b .result)) ∙ z) .1));
     }
-
--- a judgement of a table that is known to be taken
-pub judged-taken : {s places : List ℕ} {code : ℕ} → Judges s code places → Judged s 0 → Judges s 0 places
-judged-taken {s} {places} j t = subst (λ k. Judges s k places) (judged-one (j .judged) t) j

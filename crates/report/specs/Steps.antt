@@ -5,8 +5,8 @@ use Prim.Native.Nat.{ℕ, suc, _+_, _*_, _≤_}
 use lib.ListN.{length, take}
 use lib.Dec.{eqb}
 use Rattle.ground.specs.Pick.{pick}
-use Rattle.loader.specs.Judges.{Judges}
 use Rattle.card.specs.Judged.{Judged}
+use Rattle.ride.specs.Image.{Mounts}
 use Rattle.build.specs.declared.Built.{Built}
 use Rattle.report.specs.Text.{Wrote}
 
@@ -19,9 +19,15 @@ lineLength (b ∷ s) = pick (eqb b 10) 0 (suc (lineLength s))
 abbrev pub room : ℕ
 room = 4718643
 
--- the input, a taken table and its places, and the room that is left: the line of the next record fits
-pub record Records (s table places : List ℕ) (from at size : ℕ) : Type 0 where
-  pub taken : Judges table 0 places
+-- a taken table, and an image that mounting wrote of it
+pub record Mounted (table image : List ℕ) : Type 0 where
+  pub taken : Judged table 0
+  pub old : List ℕ
+  pub mounts : Mounts table old image 0
+
+-- the input, a taken table and its image, and the room that is left: the line of the next record fits
+pub record Records (s table image : List ℕ) (from at size : ℕ) : Type 0 where
+  pub mounted : Mounted table image
   pub few : length s ≤ 65536
   pub low : at ≤ 51 + 72 * from
   pub wide : room ≤ size

@@ -7,12 +7,11 @@ ghost use lib.ListN.{length, getD, drop};
 ghost use Rattle.report.specs.Text.{digits, decimal, shown, Wrote};
 ghost use Rattle.report.specs.Lines.{refusedLine, refusedAt, tableLine, answerLine, spaced};
 ghost use Rattle.report.specs.Printed.{lines, toldLine, recordLine, builtLines, faultLine, madeLines, Prints};
-ghost use Rattle.report.specs.Steps.{lineLength, room, Records, Sound};
+ghost use Rattle.report.specs.Steps.{lineLength, room, Mounted, Records, Sound};
 ghost use Rattle.ground.specs.Lists.{each};
 ghost use Rattle.ground.specs.Place.{placeOf};
 ghost use Rattle.card.specs.Decode.{tableAt};
 ghost use Rattle.run.specs.Runs.{toldOf};
-ghost use Rattle.loader.specs.Judges.{Judges};
 ghost use Rattle.pattern.specs.Maker.{given};
 use build::Built;
 use ground::Place;
@@ -183,16 +182,13 @@ fn put_told(out: &mut [u8], at: usize, told: Ran) -> usize
     put_answer(out, at, told.answer, places)
 }
 
-// A record: what a taken table tells of it, or that it is too long.
-fn put_record(out: &mut [u8], at: usize, table: &[u8], places: &[usize; 96], line: &[u8]) -> usize
+// A record: what a taken table tells of it, or that it is too long. A ride over the table's image says both.
+fn put_record(out: &mut [u8], at: usize, table: &[u8], image: &[u32], line: &[u8]) -> usize
     requires { ⌜ at + 72 ≤ length (now out) ⌝ }
-    requires { ⌜ Judges (now table) 0 (now places) ⌝ }
+    requires { ⌜ Mounted (now table) (now image) ⌝ }
     ensures { λ r. ⌜ Wrote (now (out .entry)) (now (out .exit)) at r (recordLine (tableAt (now (table .entry))) (now (line .entry))) × (r ≤ at + 72) ⌝ }
 {
-    if 32767 < line.len() {
-        return put_refused(out, at, 15);
-    }
-    let told = run::run_taken(table, places, line);
+    let told = ride::ride(table, image, line);
     put_told(out, at, told)
 }
 
@@ -201,24 +197,25 @@ fn put_records(
     out: &mut [u8],
     at: usize,
     table: &[u8],
-    places: &[usize; 96],
+    image: &[u32],
     input: &[u8],
     from: usize,
 ) -> usize
-    requires { ⌜ Records (now input) (now table) (now places) from at (length (now out)) ⌝ }
+    requires { ⌜ Records (now input) (now table) (now image) from at (length (now out)) ⌝ }
     ensures { λ r. ⌜ Wrote (now (out .entry)) (now (out .exit)) at r (each (recordLine (tableAt (now (table .entry)))) (lines (drop from (now (input .entry))))) ⌝ }
 {
     let mut end = at;
     let mut place = from;
     while place < input.len() {
         let stop = line_end(input, place);
-        end = put_record(out, end, table, places, &input[place..stop]);
+        end = put_record(out, end, table, image, &input[place..stop]);
         place = stop + 1;
     }
     end
 }
 
-// The table line and the records, or the builder's refusal alone. The table is judged once.
+// The table line and the records, or the builder's refusal alone. The table is judged and mounted once; its image has
+// room for 96 situations.
 fn put_built(out: &mut [u8], table: &[u8], built: Built, input: &[u8], from: usize) -> usize
     requires { ⌜ (room ≤ length (now out)) × (length (now input) ≤ 65536) ⌝ }
     requires { ⌜ Sound built (now table) ⌝ }
@@ -230,10 +227,10 @@ fn put_built(out: &mut [u8], table: &[u8], built: Built, input: &[u8], from: usi
     }
     let length = built.length;
     let card = &table[0..length];
-    let judged = loader::judge(card);
-    let places = judged.places;
+    let mut image = [0u32; 24672];
+    ride::mount(card, &mut image);
     let at = put_table(out, 0, length, built.situations, built.registers);
-    put_records(out, at, card, &places, input, from)
+    put_records(out, at, card, &image, input, from)
 }
 
 // A pattern's refusal, with its place where it has one.

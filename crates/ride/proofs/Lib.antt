@@ -1,3 +1,5 @@
+pub mod Blockwise
+pub mod Sorting
 pub mod Obeying
 pub mod Filling
 pub mod Telling

@@ -11,20 +11,20 @@ use borrow.Author.Tests.{lt-leb, leb-true, leb-false}
 use Rattle.ground.specs.Pick.{pick}
 use Rattle.card.specs.Table.{Cmd, move, put, Row, Sets}
 use Rattle.card.specs.Run.{rowFor, noRow}
-use Rattle.card.specs.Decode.{cmdAt, cmdsAt, afterAt, rowAt, rowsAt}
+use Rattle.card.specs.Decode.{cmdsAt, afterAt, rowAt, rowsAt}
 use Rattle.card.specs.declared.RowItem.{RowItem}
 use Rattle.card.specs.declared.RowItem.the-variants.{Leads, Ends}
 use Rattle.ground.proofs.Tests.{lt-or-le}
-use Rattle.card.specs.declared.Order.{Order}
-use Rattle.card.specs.declared.Order.the-variants.{Move, Put, Stop}
-use Rattle.card.proofs.Laws.{at-end, cmds-step, put-facts}
+use Rattle.card.proofs.Laws.{at-end}
 use Rattle.card.proofs.Rows.{row-whole, no-line, row-ends, row-here, row-later}
 use Rattle.run.proofs.Carrying.{no-cmds}
-use Rattle.ride.specs.Image.{nextOf, kindOf, listOf, entry, allSets, listKind, points, spotAt, entryAt}
+use Rattle.ride.specs.Image.{block, misfit, blockBits, ofBits, firstTo, firstFrom, leading, behind, ofList, isBlock, nextOf, kindOf, listOf, entry, allSets, listKind, points, spotAt, entryAt}
 use Rattle.ride.specs.Ride.{onlySets, orders, listless}
 use Rattle.ride.proofs.Spots.{after-past, spot-ends, spot-here, spot-later}
 use Rattle.ride.proofs.Entries.{entry-ends, entry-leads}
-use Rattle.ride.proofs.Obeying.{one-listed, one-ordered, list-listed, sets-ordered, all-ordered}
+use Rattle.ride.proofs.Blockwise.{in-bank, bits-fit, bits-out}
+use Rattle.ride.proofs.Sorting.{That, that-is, from-low}
+use Rattle.ride.proofs.Obeying.{block-listed, block-ordered, list-listed, sets-ordered, all-ordered}
 use Rattle.ride.proofs.Riding.{stay-orders, stay-list}
 
 -- ---- SETs only
@@ -46,19 +46,6 @@ list-inside s at c l e = by (lt-or-le at (length s))
     by : (at < length s) ⊎ (length s ≤ at) → at < length s
     by (inl h) = h
     by (inr h) = let f = no-cmds s at (at-end s at h) in let z : _≡_ {A = ℕ} 0 1 = cc in absurd (omega arith)
-
--- the register of the first SET of a list
-first-below : (s : List ℕ) (at t : ℕ) (l : List Cmd) → cmdsAt s at ≡ put t ∷ l → t < 64
-first-below s at t l e = by (cmdAt s at) refl
-  where
-    by : (o : Order) → cmdAt s at ≡ o → t < 64
-    by (Move u f) h = let k = cmds-step s at (Move u f) h in let y : _≡_ {A = ℕ} 0 1 = cc in absurd (omega arith)
-    by (Put u) h =
-        let k = cmds-step s at (Put u) h in
-        let y : t ≡ u = cc in
-        let f = put-facts s at u h in
-        omega arith
-    by Stop h = let k = cmds-step s at Stop h in let y : _≡_ {A = ℕ} 0 1 = cc in absurd (omega arith)
 
 -- ---- the numbers of an entry come out of their bits
 
@@ -120,28 +107,48 @@ module _ (s : List ℕ) (next at : ℕ) (small : next < 128) (low : at < 8388608
     says-either true h = says-sets h
     says-either false h = says-any
 
-  -- one SET alone: its register is below 64
-  says-one : (t : ℕ) → t < 64 → Says (entry next 3 t) (put t ∷ [])
-  says-one t h = record {
-    next = entry-next next 3 t small;
-    orders =
-        let k = entry-kind next 3 t (omega arith) in
-        one-ordered s (entry next 3 t) (λ z. omega arith) k
-        ∙ ap (λ (n : ℕ). put n ∷ []) (let a = entry-at next 3 t (omega arith) (omega arith) in omega arith);
-    listed = one-listed s (entry next 3 t) (λ z. let k = entry-kind next 3 t (omega arith) in omega arith) (entry-kind next 3 t (omega arith));
-  }
+  -- a block: its numbers come out of their bits
+  module _ (l : List Cmd) (a k f n : ℕ) (b : That l a k f n) (held : f < 64) where
+    abbrev word : ℕ
+    word = entry next 3 (blockBits a k f n)
+
+    kind : kindOf word ≡ 3
+    kind = entry-kind next 3 (blockBits a k f n) (omega arith)
+
+    bits : {A : Type 0} (g : (a k s n : ℕ) → A) → ofBits g (listOf word) ≡ g a k f n
+    bits g =
+        let i = in-bank a k f n (b .held) in
+        let some : 1 ≤ k = omega (arith, b .some) in
+        let first : a < 64 = omega arith in
+        let more : n < 64 = omega arith in
+        ap (ofBits g) (entry-at next 3 (blockBits a k f n) (omega arith) (bits-fit a k f n first some (b .few) more held))
+        ∙ bits-out g a k f n first some (b .few) more held
+
+    says-block : Says word l
+    says-block = record {
+      next = entry-next next 3 (blockBits a k f n) small;
+      orders = block-ordered s word (λ z. let h = kind in omega arith) kind ∙ bits block ∙ sym (b .is);
+      listed = block-listed s word (λ z. let h = kind in omega arith) kind ∙ bits misfit ∙ b .held;
+    }
 
   plain : entry next 0 0 ≡ next
   unfolding entry
   plain = omega arith
 
   pub says-list : (l : List Cmd) → cmdsAt s at ≡ l → Says (entry next (listKind l) (points l at)) l
+  unfolding pick
   says-list [] e =
       subst (λ (n : ℕ). Says n []) (sym plain)
       (record { next = omega arith; orders = stay-orders s next small; listed = stay-list s next small })
-  says-list (move t f ∷ l) e = says-any (move t f) l e
-  says-list (put t ∷ []) e = says-one t (first-below s at t [] e)
-  says-list (put t ∷ (c ∷ l)) e = says-either (put t) (c ∷ l) e (allSets (c ∷ l)) refl
+  says-list (c ∷ l) e = by (isBlock (c ∷ l)) refl
+    where
+      by : (t : Bool) → isBlock (c ∷ l) ≡ t
+          → Says (entry next (pick t 3 (pick (allSets (c ∷ l)) 1 2)) (pick t (ofList blockBits (c ∷ l)) at)) (c ∷ l)
+      by true h =
+          let b = that-is (c ∷ l) (firstTo (c ∷ l)) (leading (c ∷ l)) (firstFrom (behind (c ∷ l))) (length (behind (c ∷ l))) h in
+          says-block (c ∷ l) (firstTo (c ∷ l)) (leading (c ∷ l)) (firstFrom (behind (c ∷ l))) (length (behind (c ∷ l))) b
+          (from-low (behind (c ∷ l)) (in-bank (firstTo (c ∷ l)) (leading (c ∷ l)) (firstFrom (behind (c ∷ l))) (length (behind (c ∷ l))) (b .held)))
+      by false h = says-either c l e (allSets (c ∷ l)) refl
 
 -- ---- the entry of a byte's row
 

@@ -1,5 +1,5 @@
--- The commands of an entry carried out: SETs alone, a whole list, and what an entry asks for. Assumes nothing.
-use Prim.Native.Nat.{ℕ, _+_, _%_, _<_, _≤_}
+-- The commands of an entry carried out: SETs alone, a block, a whole list, and what an entry asks for. Assumes nothing.
+use Prim.Native.Nat.{ℕ, _+_, _/_, _%_, _<_, _≤_}
 use native.Mathlib.Omega.{arith}
 use mathlib.Core.Path.{_≡_, refl, sym, ap, ap₂, _∙_}
 use mathlib.Core.Bool.{Bool, true, false}
@@ -15,9 +15,10 @@ use Rattle.card.specs.Decode.{cmdAt, cmdsAt}
 use Rattle.card.specs.declared.Order.the-variants.{Move, Put, Stop}
 use Rattle.card.proofs.Laws.{cmds-step}
 use Rattle.run.specs.Carry.{carry}
-use Rattle.ride.specs.Image.{kindOf, listOf}
+use Rattle.ride.specs.Image.{block, misfit, ofBits, kindOf, listOf}
 use Rattle.ride.specs.Ride.{onlySets, orders, listless}
-use Rattle.ride.specs.Need.{Obeyed}
+use Rattle.ride.specs.Need.{Blocked, Obeyed}
+use Rattle.ride.proofs.Blockwise.{ap₄, no-misfit}
 
 -- ---- SETs alone
 
@@ -40,16 +41,16 @@ module _ (s : List ℕ) (i p : ℕ) (old cur : Bank) where
 -- ---- an entry
 
 module _ (s : List ℕ) (e : ℕ) where
-  pub listless-is : (a b c : Bool) → eqb (kindOf e) 0 ≡ a → eqb (kindOf e) 3 ≡ b → leb (length s) (listOf e) ≡ c → listless s e ≡ pick a false (pick b false c)
+  pub listless-is : (a b c : Bool) → eqb (kindOf e) 0 ≡ a → eqb (kindOf e) 3 ≡ b → leb (length s) (listOf e) ≡ c → listless s e ≡ pick a false (pick b (ofBits misfit (listOf e)) c)
   unfolding listless
-  listless-is a b c f g h = ap₂ (λ (x y : Bool). pick x false y) f (ap₂ (λ (x y : Bool). pick x false y) g h)
+  listless-is a b c f g h = ap₂ (λ (x y : Bool). pick x false y) f (ap₂ (λ (x y : Bool). pick x (ofBits misfit (listOf e)) y) g h)
 
   pub orders-are : (a b c : Bool) → eqb (kindOf e) 0 ≡ a → eqb (kindOf e) 3 ≡ b → eqb (kindOf e) 1 ≡ c
-      → orders s e ≡ pick a [] (pick b (put (listOf e % 64) ∷ []) (pick c (onlySets (cmdsAt s (listOf e))) (cmdsAt s (listOf e))))
+      → orders s e ≡ pick a [] (pick b (ofBits block (listOf e)) (pick c (onlySets (cmdsAt s (listOf e))) (cmdsAt s (listOf e))))
   unfolding orders
   orders-are a b c f g h =
       ap₂ (λ (x : Bool) (y : List Cmd). pick x [] y) f
-      (ap₂ (λ (x : Bool) (y : List Cmd). pick x (put (listOf e % 64) ∷ []) y) g
+      (ap₂ (λ (x : Bool) (y : List Cmd). pick x (ofBits block (listOf e)) y) g
       (ap (λ (x : Bool). pick x (onlySets (cmdsAt s (listOf e))) (cmdsAt s (listOf e))) h))
 
   -- no commands
@@ -63,15 +64,15 @@ module _ (s : List ℕ) (e : ℕ) where
     none-ordered = orders-are true (eqb (kindOf e) 3) (eqb (kindOf e) 1) (eq-eqb (kindOf e) 0 k) refl refl
 
   module _ (k : kindOf e ≡ 0 → ⊥) where
-    -- one SET alone
+    -- a block
     module _ (h : kindOf e ≡ 3) where
-      pub one-listed : listless s e ≡ false
+      pub block-listed : listless s e ≡ ofBits misfit (listOf e)
       unfolding pick
-      one-listed = listless-is false true (leb (length s) (listOf e)) (ne-eqb (kindOf e) 0 k) (eq-eqb (kindOf e) 3 h) refl
+      block-listed = listless-is false true (leb (length s) (listOf e)) (ne-eqb (kindOf e) 0 k) (eq-eqb (kindOf e) 3 h) refl
 
-      pub one-ordered : orders s e ≡ put (listOf e % 64) ∷ []
+      pub block-ordered : orders s e ≡ ofBits block (listOf e)
       unfolding pick
-      one-ordered = orders-are false true (eqb (kindOf e) 1) (ne-eqb (kindOf e) 0 k) (eq-eqb (kindOf e) 3 h) refl
+      block-ordered = orders-are false true (eqb (kindOf e) 1) (ne-eqb (kindOf e) 0 k) (eq-eqb (kindOf e) 3 h) refl
 
     -- a list
     module _ (h : kindOf e ≡ 3 → ⊥) where
@@ -99,9 +100,31 @@ module _ (s : List ℕ) (e p : ℕ) (old : Bank) where
   obeyed-none k = is-done (none-listed s e k) [] (none-ordered s e k) refl
 
   module _ (k : kindOf e ≡ 0 → ⊥) where
-    pub obeyed-one : kindOf e ≡ 3 → Obeyed s e p old (set old (listOf e % 64) (pos p)) true
-    unfolding carry
-    obeyed-one h = is-done (one-listed s e k h) (put (listOf e % 64) ∷ []) (one-ordered s e k h) refl
+    module _ (h : kindOf e ≡ 3) where
+      pub obeyed-one : listOf e < 64 → Obeyed s e p old (set old (listOf e) (pos p)) true
+      unfolding carry
+      obeyed-one l =
+          is-done (block-listed s e k h ∙ ap₄ misfit a b c d ∙ no-misfit (listOf e) 1 0 0 (omega arith) (omega arith))
+          (put (listOf e) ∷ []) (block-ordered s e k h ∙ ap₄ block a b c d) refl
+        where
+          a : listOf e % 64 ≡ listOf e
+          a = omega arith
+
+          b : listOf e / 64 % 32 + 1 ≡ 1
+          b = omega arith
+
+          c : listOf e / 131072 ≡ 0
+          c = omega arith
+
+          d : listOf e / 2048 % 64 ≡ 0
+          d = omega arith
+
+      pub obeyed-block : {new : Bank} {r : Bool} → Blocked (listOf e) p old new r → Obeyed s e p old new r
+      obeyed-block o = record {
+        done = λ z.
+            (block-listed s e k h ∙ o .done z .0, o .done z .1 ∙ sym (ap (λ (x : List Cmd). carry x p old old) (block-ordered s e k h)));
+        past = λ z. block-listed s e k h ∙ o .past z;
+      }
 
     module _ (n : kindOf e ≡ 3 → ⊥) where
       pub obeyed-past : length s ≤ listOf e → {new : Bank} → Obeyed s e p old new false

@@ -1,10 +1,10 @@
 -- What a mounted image holds: one number for each situation and byte. Assumes nothing: these are definitions.
 use mathlib.Core.Path.{_≡_}
 use mathlib.Core.Bool.{Bool, true, false}
-use mathlib.Core.List.{List, [], _∷_}
-use Prim.Native.Nat.{ℕ, zero, suc, _+_, _*_, _/_, _%_, _<_, _≤_}
+use mathlib.Core.List.{List, [], _∷_, _++_}
+use Prim.Native.Nat.{ℕ, zero, suc, _+_, _-_, _*_, _/_, _%_, _<_, _≤_}
 use lib.ListN.{length, getD}
-use lib.Dec.{leb}
+use lib.Dec.{leb, ltb, eqb}
 use Rattle.ground.specs.Pick.{pick}
 use Rattle.card.specs.Table.{Cmd, move, put}
 use Rattle.card.specs.Decode.{cmdsAt, afterAt, rowAt, placesOf}
@@ -12,7 +12,7 @@ use Rattle.card.specs.Judged.{Judged}
 use Rattle.card.specs.declared.RowItem.{RowItem}
 use Rattle.card.specs.declared.RowItem.the-variants.{Leads, Ends}
 
--- ---- an entry of 32 bits: 7 for the next situation, 2 for the kind of the list of commands, 23 for the list's place in the table or a register
+-- ---- an entry of 32 bits: 7 for the next situation, 2 for the kind of the list of commands, 23 for the list's place in the table or a block's numbers
 
 abbrev pub nextOf : ℕ → ℕ
 nextOf e = e % 128
@@ -27,7 +27,77 @@ listOf e = e / 512
 unfoldable pub entry : (next kind at : ℕ) → ℕ
 entry next kind at = next % 128 + 128 * kind + 512 * (at % 8388608)
 
--- ---- the kind of a list: 0 none, 1 SETs only, 2 with a MOVE, 3 one SET alone
+-- ---- a block: SETs of the k registers from a on, then MOVEs of the n registers after them from the registers from s on.
+-- Such are the commands where an item comes into a situation's list: its registers are new, and those of all items after it shift as one
+
+abbrev pub puts : (a k : ℕ) → List Cmd
+puts a zero = []
+puts a (suc k) = put a ∷ puts (suc a) k
+
+abbrev pub moves : (a s n : ℕ) → List Cmd
+moves a s zero = []
+moves a s (suc n) = move a s ∷ moves (suc a) (suc s) n
+
+abbrev pub block : (a k s n : ℕ) → List Cmd
+block a k s n = puts a k ++ moves (a + k) s n
+
+-- no block: it goes past register 63, or its MOVEs lead downward. Upward they are carried out in place, the last first
+unfoldable pub misfit : (a k s n : ℕ) → Bool
+misfit a k s n = pick (ltb 64 (a + k + n)) true (ltb (a + k) s)
+
+-- its numbers in 23 bits, 6 for a, 5 for k - 1, 6 for n and 6 for s, so that one SET alone is its register; and out of them
+unfoldable pub blockBits : (a k s n : ℕ) → ℕ
+blockBits a k s n = a + 64 * (k - 1) + 2048 * n + 131072 * s
+
+abbrev pub ofBits : {A : Type 0} → ((a k s n : ℕ) → A) → ℕ → A
+ofBits f w = f (w % 64) (w / 64 % 32 + 1) (w / 131072) (w / 2048 % 64)
+
+-- ---- whether a list is a block: it is the one that its first register, its SETs, the first MOVE's source and the other commands name
+
+abbrev pub firstTo : List Cmd → ℕ
+firstTo [] = 0
+firstTo (move t f ∷ l) = t
+firstTo (put t ∷ l) = t
+
+abbrev pub firstFrom : List Cmd → ℕ
+firstFrom [] = 0
+firstFrom (move t f ∷ l) = f
+firstFrom (put t ∷ l) = 0
+
+-- how many SETs a list begins with, and what follows them
+abbrev pub leading : List Cmd → ℕ
+leading [] = 0
+leading (move t f ∷ l) = 0
+leading (put t ∷ l) = suc (leading l)
+
+abbrev pub behind : List Cmd → List Cmd
+behind [] = []
+behind (move t f ∷ l) = move t f ∷ l
+behind (put t ∷ l) = behind l
+
+abbrev pub ofList : {A : Type 0} → ((a k s n : ℕ) → A) → List Cmd → A
+ofList f l = f (firstTo l) (leading l) (firstFrom (behind l)) (length (behind l))
+
+abbrev pub sameCmd : Cmd → Cmd → Bool
+sameCmd (move t f) (move u g) = pick (eqb t u) (eqb f g) false
+sameCmd (move t f) (put u) = false
+sameCmd (put t) (move u g) = false
+sameCmd (put t) (put u) = eqb t u
+
+abbrev pub same : List Cmd → List Cmd → Bool
+same [] [] = true
+same [] (d ∷ m) = false
+same (c ∷ l) [] = false
+same (c ∷ l) (d ∷ m) = pick (sameCmd c d) (same l m) false
+
+-- the block of four numbers that fit: a SET at least, no more than 5 bits count, upward and within the bank
+unfoldable pub isThat : List Cmd → (a k s n : ℕ) → Bool
+isThat l a k s n = pick (eqb k 0) false (pick (ltb 32 k) false (pick (misfit a k s n) false (same l (block a k s n))))
+
+abbrev pub isBlock : List Cmd → Bool
+isBlock l = ofList (isThat l) l
+
+-- ---- the kind of a list: 0 none, 1 SETs only, 2 with a MOVE, 3 a block
 
 abbrev pub allSets : List Cmd → Bool
 allSets [] = true
@@ -36,17 +106,13 @@ allSets (put t ∷ l) = allSets l
 
 abbrev pub listKind : List Cmd → ℕ
 listKind [] = 0
-listKind (move t f ∷ l) = 2
-listKind (put t ∷ []) = 3
-listKind (put t ∷ (c ∷ l)) = pick (allSets (c ∷ l)) 1 2
+listKind (c ∷ l) = pick (isBlock (c ∷ l)) 3 (pick (allSets (c ∷ l)) 1 2)
 
--- where a list stands; of one SET alone its register, so that no list is read; 0 if there is none, so that an entry without
+-- where a list stands; of a block its numbers, so that no list is read; 0 if there is none, so that an entry without
 -- commands is the next situation's number alone
 abbrev pub points : List Cmd → ℕ → ℕ
 points [] at = 0
-points (move t f ∷ l) at = at
-points (put t ∷ []) at = t
-points (put t ∷ (c ∷ l)) at = at
+points (c ∷ l) at = pick (isBlock (c ∷ l)) (ofList blockBits (c ∷ l)) at
 
 -- ---- the place of a byte's row among the rows at a place: the first that ends at or after the byte; the table's end if there is none
 

@@ -1,18 +1,25 @@
 -- What the inner functions of a ride are told and say. Assumes nothing: these are definitions.
 use mathlib.Core.Path.{_≡_}
 use mathlib.Core.Bool.{Bool, true, false}
-use mathlib.Core.List.{List, []}
+use mathlib.Core.List.{List, [], _∷_, _++_}
 use mathlib.Core.Logic.{_⊎_}
 use Prim.Native.Nat.{ℕ, _+_, _*_, _<_, _≤_}
 use lib.ListN.{length, getD}
+use Rattle.card.specs.Table.{Cmd, move, put}
 use Rattle.card.specs.Run.{Bank, lineMax}
-use Rattle.card.specs.Decode.{cmdsAt}
+use Rattle.card.specs.Decode.{cmdAt, cmdsAt}
+use Rattle.card.specs.declared.Order.the-variants.{Put}
 use Rattle.loader.specs.Flow.{Ready}
 use Rattle.run.specs.Carry.{carry}
-use Rattle.ride.specs.Image.{spotAt, entryAt}
+use Rattle.ride.specs.Image.{puts, moves, block, misfit, ofBits, listKind, points, spotAt, entryAt}
 use Rattle.ride.specs.Ride.{orders, listless}
 
--- the commands of an entry are carried out unless its list stands past the table's end
+-- the block that some bits name is carried out unless they name none
+pub record Blocked (w place : ℕ) (old new : Bank) (r : Bool) : Type 0 where
+  pub done : r ≡ true → (ofBits misfit w ≡ false) × (new ≡ carry (ofBits block w) place old old)
+  pub past : r ≡ false → ofBits misfit w ≡ true
+
+-- the commands of an entry are carried out unless its numbers name no block or its list stands past the table's end
 pub record Obeyed (s : List ℕ) (e place : ℕ) (old new : Bank) (r : Bool) : Type 0 where
   pub done : r ≡ true → (listless s e ≡ false) × (new ≡ carry (orders s e) place old old)
   pub past : r ≡ false → listless s e ≡ true
@@ -41,6 +48,27 @@ pub record Mountable (s places image : List ℕ) : Type 0 where
   pub ready : Ready s places
   pub short : length s < 8388608
   pub room : 257 * getD s 4 0 ≤ length image
+
+-- n SETs of the registers from a on stand at a place, the next register's does not follow at the place after them, and they are in the bank
+pub record SetsRun (s : List ℕ) (at a n after : ℕ) : Type 0 where
+  pub here : cmdsAt s at ≡ puts a n ++ cmdsAt s after
+  pub stops : (l : List Cmd) → cmdsAt s after ≡ put (a + n) ∷ l → ⊥
+  pub inside : a + n ≤ 64
+
+-- likewise n MOVEs of the registers from a on from those from f on
+pub record MovesRun (s : List ℕ) (at a f n after : ℕ) : Type 0 where
+  pub here : cmdsAt s at ≡ moves a f n ++ cmdsAt s after
+  pub stops : (l : List Cmd) → cmdsAt s after ≡ move (a + n) (f + n) ∷ l → ⊥
+  pub inside : (a + n ≤ 64) × (f + n ≤ 64)
+
+-- the list at a place begins with a SET of a register
+pub record Begins (s : List ℕ) (at a : ℕ) : Type 0 where
+  pub first : cmdAt s at ≡ Put a
+
+-- the kind of the list at a place, and what its entry points to
+pub record Sorted (s : List ℕ) (at k p : ℕ) : Type 0 where
+  pub kind : k ≡ listKind (cmdsAt s at)
+  pub spot : p ≡ points (cmdsAt s at) at
 
 -- whether no command stands at a place
 pub record Alone (s : List ℕ) (at : ℕ) (r : Bool) : Type 0 where

@@ -2,7 +2,7 @@
 -- A law says that with the image that mounting writes of a taken table it is the run of that table. Assumes nothing: these are definitions.
 use mathlib.Core.Bool.{Bool, true, false}
 use mathlib.Core.List.{List, [], _∷_, map}
-use Prim.Native.Nat.{ℕ, suc, _+_, _*_, _%_}
+use Prim.Native.Nat.{ℕ, suc, _+_, _*_}
 use lib.ListN.{length, getD, take, drop}
 use lib.IntN.{ℤ}
 use lib.Dec.{ltb, leb, eqb}
@@ -11,7 +11,7 @@ use Rattle.card.specs.Table.{Cmd, move, put}
 use Rattle.card.specs.Run.{Bank, reg, absent, empties, lineMax, Told, refused}
 use Rattle.card.specs.Decode.{cmdsAt}
 use Rattle.run.specs.Carry.{carry}
-use Rattle.ride.specs.Image.{nextOf, kindOf, listOf}
+use Rattle.ride.specs.Image.{block, misfit, ofBits, nextOf, kindOf, listOf}
 
 -- the SETs that a list begins with
 abbrev pub onlySets : List Cmd → List Cmd
@@ -19,18 +19,18 @@ onlySets [] = []
 onlySets (move t f ∷ l) = []
 onlySets (put t ∷ l) = put t ∷ onlySets l
 
--- the commands of an entry: none; one SET alone, of the register that it names; SETs only; any
+-- the commands of an entry: none; the block that its bits name; SETs only; any
 unfoldable pub orders : List ℕ → ℕ → List Cmd
 orders s e =
     pick (eqb (kindOf e) 0) []
-    (pick (eqb (kindOf e) 3) (put (listOf e % 64) ∷ [])
+    (pick (eqb (kindOf e) 3) (ofBits block (listOf e))
     (pick (eqb (kindOf e) 1) (onlySets (cmdsAt s (listOf e))) (cmdsAt s (listOf e))))
 
--- its list stands past the table's end
+-- its numbers name no block, or its list stands past the table's end
 unfoldable pub listless : List ℕ → ℕ → Bool
-listless s e = pick (eqb (kindOf e) 0) false (pick (eqb (kindOf e) 3) false (leb (length s) (listOf e)))
+listless s e = pick (eqb (kindOf e) 0) false (pick (eqb (kindOf e) 3) (ofBits misfit (listOf e)) (leb (length s) (listOf e)))
 
--- an entry that points outside: at a situation that the HEAD does not count, or at a list past the table's end
+-- an entry that points outside: at a situation that the HEAD does not count, at no block, or at a list past the table's end
 unfoldable pub astray : List ℕ → ℕ → Bool
 astray s e = pick (leb (getD s 4 0) (nextOf e)) true (listless s e)
 

@@ -1,16 +1,23 @@
 // An image written of a table that is taken.
 ghost use mathlib.Core.Path.{_≡_};
-ghost use Prim.Native.Nat.{_<_};
+ghost use Prim.Native.Nat.{_<_, _≤_};
+ghost use Rattle.ground.specs.Pick.{pick};
 ghost use Rattle.card.specs.Decode.{cmdsAt};
-ghost use Rattle.ride.specs.Image.{allSets, listKind, points, entry, spotAt, entryAt, Imaged};
-ghost use Rattle.ride.specs.Need.{Alone, RowImaged, Room, Mountable};
+ghost use Rattle.ride.specs.Image.{firstFrom, allSets, entry, spotAt, entryAt, Imaged};
+ghost use Rattle.ride.specs.Need.{Alone, SetsRun, MovesRun, Begins, Sorted, RowImaged, Room, Mountable};
 use card::Order;
 use card::RowItem;
 
-// The kind of a list of commands, and where it stands or which register it sets.
+// The kind of a list of commands, and where it stands or the numbers of its block.
 struct Sort {
     kind: u32,
     points: usize,
+}
+
+// How many commands of one stretch stand at a place, and the place after them.
+struct Stretch {
+    many: usize,
+    after: usize,
 }
 
 // Whether the list at a place has no MOVE.
@@ -52,9 +59,127 @@ fn alone(s: &[u8], at: usize) -> bool
     }
 }
 
+// The SETs of the registers from a on that the list at a place begins with. That a is no more than 64 `block_sort` shows.
+fn sets_run(s: &[u8], at: usize, a: usize) -> Stretch
+    requires { ⌜ a ≤ 64 ⌝ }
+    ensures { λ r. ⌜ SetsRun (now (s .entry)) at a (r .many) (r .after) ⌝ }
+{
+    let mut i = at;
+    let mut n: usize = 0;
+    loop {
+        let o = card::read_cmd(s, i);
+        match o {
+            Order::Put(to) => {
+                if to != a + n {
+                    return Stretch { many: n, after: i };
+                }
+                i += 2;
+                n += 1;
+            }
+            Order::Move(_, _) => {
+                return Stretch { many: n, after: i };
+            }
+            Order::Stop => {
+                return Stretch { many: n, after: i };
+            }
+        }
+    }
+}
+
+// The MOVEs of the registers from a on, from those from f on, that the list at a place begins with. `block_sort` shows the bounds.
+fn moves_run(s: &[u8], at: usize, a: usize, f: usize) -> Stretch
+    requires { ⌜ (a ≤ 64) × (f ≤ 64) ⌝ }
+    ensures { λ r. ⌜ MovesRun (now (s .entry)) at a f (r .many) (r .after) ⌝ }
+{
+    let mut i = at;
+    let mut n: usize = 0;
+    loop {
+        let o = card::read_cmd(s, i);
+        match o {
+            Order::Move(to, from) => {
+                if to != a + n {
+                    return Stretch { many: n, after: i };
+                }
+                if from != f + n {
+                    return Stretch { many: n, after: i };
+                }
+                i += 3;
+                n += 1;
+            }
+            Order::Put(_) => {
+                return Stretch { many: n, after: i };
+            }
+            Order::Stop => {
+                return Stretch { many: n, after: i };
+            }
+        }
+    }
+}
+
+// The source of a MOVE that stands at a place, or 0.
+fn first_from(s: &[u8], at: usize) -> usize
+    ensures { λ r. ⌜ (r ≡ firstFrom (cmdsAt (now (s .entry)) at)) × (r < 64) ⌝ }
+{
+    let o = card::read_cmd(s, at);
+    match o {
+        Order::Move(_, from) => {
+            return from;
+        }
+        Order::Put(_) => {
+            return 0;
+        }
+        Order::Stop => {
+            return 0;
+        }
+    }
+}
+
+// A list that is no block.
+fn plain_sort(s: &[u8], at: usize) -> Sort
+    ensures { λ r. ⌜ (r .kind ≡ pick (allSets (cmdsAt (now (s .entry)) at)) 1 2) × (r .points ≡ at) ⌝ }
+{
+    if all_sets(s, at) {
+        return Sort {
+            kind: 1,
+            points: at,
+        };
+    }
+    Sort {
+        kind: 2,
+        points: at,
+    }
+}
+
+// A list that begins with a SET of a, as `list_sort` read it: a block, if the MOVEs lead upward and nothing follows them.
+fn block_sort(s: &[u8], at: usize, a: usize) -> Sort
+    requires { ⌜ Begins (now s) at a ⌝ }
+    ensures { λ r. ⌜ Sorted (now (s .entry)) at (r .kind) (r .points) ⌝ }
+{
+    let sets = sets_run(s, at, a);
+    let k = sets.many;
+    let mid = sets.after;
+    let f = first_from(s, mid);
+    let moves = moves_run(s, mid, a + k, f);
+    let n = moves.many;
+    let end = moves.after;
+    if 32 < k {
+        return plain_sort(s, at);
+    }
+    if a + k < f {
+        return plain_sort(s, at);
+    }
+    if !alone(s, end) {
+        return plain_sort(s, at);
+    }
+    Sort {
+        kind: 3,
+        points: a + 64 * (k - 1) + 2048 * n + 131072 * f,
+    }
+}
+
 // The kind of the list at a place, and what its entry points to.
 fn list_sort(s: &[u8], at: usize) -> Sort
-    ensures { λ r. ⌜ (r .kind ≡ listKind (cmdsAt (now (s .entry)) at)) × (r .points ≡ points (cmdsAt (now (s .entry)) at) at) ⌝ }
+    ensures { λ r. ⌜ Sorted (now (s .entry)) at (r .kind) (r .points) ⌝ }
 {
     let o = card::read_cmd(s, at);
     match o {
@@ -67,23 +192,8 @@ fn list_sort(s: &[u8], at: usize) -> Sort
                 points: at,
             };
         }
-        Order::Put(to) => {
-            if alone(s, at + 2) {
-                return Sort {
-                    kind: 3,
-                    points: to,
-                };
-            }
-            if all_sets(s, at + 2) {
-                return Sort {
-                    kind: 1,
-                    points: at,
-                };
-            }
-            return Sort {
-                kind: 2,
-                points: at,
-            };
+        Order::Put(a) => {
+            return block_sort(s, at, a);
         }
     }
 }

@@ -1,4 +1,5 @@
 // A load-once run: a table is judged and written as an image once, then lines ride over the image.
+mod blocks;
 mod imaging;
 
 ghost use mathlib.Core.Path.{_≡_};
@@ -12,6 +13,10 @@ ghost use Rattle.run.specs.Runs.{toldOf};
 ghost use Rattle.ride.specs.Image.{Mounts};
 ghost use Rattle.ride.specs.Ride.{onlySets, fieldAt, endAt, ridesFrom, started, ridden};
 ghost use Rattle.ride.specs.Need.{Obeyed, Rideable};
+use answers::LINE_LONG;
+use answers::NO_MATCH;
+use answers::OUT_SMALL;
+use answers::TABLE_FORM;
 use card::Order;
 use run::Ran;
 
@@ -86,7 +91,8 @@ fn move_list(s: &[u8], at: usize, place: usize, old: &[i16; 64], bank: &mut [i16
     }
 }
 
-// The commands of an entry carried out; false for a list that stands past the table's end.
+// The commands of an entry carried out; false for numbers that name no block or a list that stands past the table's
+// end. A number below 64 is a block of one SET alone.
 fn obey(s: &[u8], e: usize, place: usize, bank: &mut [i16; 64]) -> bool
     requires { ⌜ place ≤ lineMax ⌝ }
     ensures { λ r. ⌜ Obeyed (now (s .entry)) e place (now (bank .entry)) (now (bank .exit)) r ⌝ }
@@ -97,9 +103,12 @@ fn obey(s: &[u8], e: usize, place: usize, bank: &mut [i16; 64]) -> bool
     }
     let at = e / 512;
     if kind == 3 {
-        let v = ground::held(place);
-        bank[at % 64] = v;
-        return true;
+        if at < 64 {
+            let v = ground::held(place);
+            bank[at] = v;
+            return true;
+        }
+        return blocks::obey_block(at, place, bank);
     }
     if s.len() <= at {
         return false;
@@ -137,11 +146,11 @@ fn tell(s: &[u8], at: usize, bank: &[i16; 64]) -> Ran
     ensures { λ r. ⌜ toldOf r ≡ endAt (now (s .entry)) (now (bank .entry)) at ⌝ }
 {
     if s.len() < at + 10 {
-        return refusal(13);
+        return refusal(TABLE_FORM);
     }
     let answer = s[at + 1];
     if answer == 255 {
-        return refusal(16);
+        return refusal(NO_MATCH);
     }
     let places = fields_at(s, at + 2, bank);
     Ran {
@@ -170,13 +179,13 @@ fn ride_line(s: &[u8], image: &[u32], count: usize, line: &[u8]) -> Ran
             let next = e % 128;
             if next != q {
                 if count <= next {
-                    return refusal(13);
+                    return refusal(TABLE_FORM);
                 }
                 q = next;
                 row = 256 * next;
             }
             if !obey(s, e, i, &mut bank) {
-                return refusal(13);
+                return refusal(TABLE_FORM);
             }
         }
     }
@@ -191,13 +200,13 @@ pub fn ride(table: &[u8], image: &[u32], line: &[u8]) -> Ran
 {
     let count = card::sit_count(table);
     if count == 0 {
-        return refusal(13);
+        return refusal(TABLE_FORM);
     }
     if image.len() < 257 * count {
-        return refusal(13);
+        return refusal(TABLE_FORM);
     }
     if LINE_MAX < line.len() {
-        return refusal(15);
+        return refusal(LINE_LONG);
     }
     ride_line(table, image, count, line)
 }
@@ -214,7 +223,7 @@ pub fn mount(table: &[u8], image: &mut [u32]) -> u8
     }
     let count = card::sit_count(table);
     if image.len() < 257 * count {
-        return 12;
+        return OUT_SMALL;
     }
     let places = j.places;
     imaging::write_image(table, &places, image);

@@ -7,17 +7,13 @@ use mathlib.Core.List.{List, [], _∷_}
 use lib.ListN.{length, getD}
 use Rattle.card.specs.Table.{Table, bytesOf, Formed}
 use Rattle.card.specs.Run.{lineMax, Line, Told, refused, tells, over, lost}
-use Rattle.ground.specs.Lists.{Bytes}
+use Rattle.ground.proofs.Every.{all-bytes}
 use Rattle.card.specs.Judged.{Judged}
 use Rattle.card.specs.Decode.{tableAt}
 use Rattle.loader.specs.Judges.{Judges}
 use Rattle.loader.proofs.Judging.{not-stuck, is-formed, is-ready}
 use Rattle.run.specs.Carry.{Rides}
 use Rattle.run.specs.Runs.{Runs, unfit, long, fit}
-
-all-bytes : (w : List ℕ) → ((i : ℕ) → getD w i 0 < 256) → Bytes w
-all-bytes [] h = tt
-all-bytes (b ∷ w) h = (h 0, all-bytes w (λ i. h (suc i)))
 
 module _ {s p : List ℕ} {c : ℕ} (j : Judges s c p) where
   pub runs-unfit : {w : List ℕ} {t : Told} → t ≡ refused c → (c ≡ 0 → ⊥) → Runs s w t

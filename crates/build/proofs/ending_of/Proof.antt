@@ -30,7 +30,7 @@ element-copy-out-e c = omega (arith, c .before .before .before .before .pre .1 .
 
 end-at-requires : tie.Need-end-at-requires Inv-loop μ-loop
 end-at-requires c κs =
-    let len = unmapped _ (c .before .before .before .before .before .args .t3 .list) 64 (c .before .before .before .before .before .good .1 .1 .0 .1 .1 .1 .1 .0 .1 .0 .1) in
+    let len = unmapped _ (c .before .before .before .before .before .args .t3 .list) 64 (c .before .before .before .before .before .good .1 .1 .0 .1 .1 .1 .0 .1 .0 .1) in
     (c .before .before .before .before .before .pre .0, below-at _ (c .before .before .before .before .before .args .t3 .list) (c .before .before .before .before .before .args .t3 .n) (c .before .before .loop .i) _ (omega (arith, c .before .before .before .before .before .pre .1 .few)) (omega arith) (fit-below _ _ (c .before .before .before .before .before .pre .1)))
 
 enum-known-c : tie.Need-enum-known-c Inv-loop μ-loop
@@ -38,7 +38,7 @@ enum-known-c c = search needs
 
 returns : tie.Need-returns Inv-loop μ-loop
 returns c =
-    let len = unmapped _ (c .before .before .before .before .before .before .before .before .before .before .args .t3 .list) 64 (c .before .before .before .before .before .before .before .before .before .before .good .1 .1 .0 .1 .1 .1 .1 .0 .1 .0 .1) in
+    let len = unmapped _ (c .before .before .before .before .before .before .before .before .before .before .args .t3 .list) 64 (c .before .before .before .before .before .before .before .before .before .before .good .1 .1 .0 .1 .1 .1 .0 .1 .0 .1) in
     an-end _ (c .before .before .before .before .before .before .before .before .before .before .args .t3) (omega (arith, c .before .before .before .before .before .before .before .before .before .before .pre .1 .few)) (c .before .before .before .before .before .before .before .loop .i) _ (c .before .before .before .before .before .before .before .loop .inv .1) (omega arith) _ (sym (c .before .c .given .1) ∙ c .before .before .before .before .end-at .ensures)
 
 enum-told : tie.Need-enum-told Inv-loop μ-loop
@@ -52,12 +52,12 @@ loop-less c = omega arith
 
 loop-again : tie.Need-loop-again Inv-loop μ-loop
 loop-again c =
-    let len = unmapped _ (c .before .before .before .before .before .before .before .before .before .args .t3 .list) 64 (c .before .before .before .before .before .before .before .before .before .good .1 .1 .0 .1 .1 .1 .1 .0 .1 .0 .1) in
+    let len = unmapped _ (c .before .before .before .before .before .before .before .before .before .args .t3 .list) 64 (c .before .before .before .before .before .before .before .before .before .good .1 .1 .0 .1 .1 .1 .0 .1 .0 .1) in
     (omega arith, no-end _ (c .before .before .before .before .before .before .before .before .before .args .t3) (omega (arith, c .before .before .before .before .before .before .before .before .before .pre .1 .few)) (c .before .before .before .before .before .before .loop .i) _ (c .before .before .before .before .before .before .loop .inv .1) (omega arith) (sym (c .enum-told .given .1) ∙ c .before .before .before .end-at .ensures))
 
 returns-2 : tie.Need-returns-2 Inv-loop μ-loop
 returns-2 c =
-    let len = unmapped _ (c .before .before .before .before .args .t3 .list) 64 (c .before .before .before .before .good .1 .1 .0 .1 .1 .1 .1 .0 .1 .0 .1) in
+    let len = unmapped _ (c .before .before .before .before .args .t3 .list) 64 (c .before .before .before .before .good .1 .1 .0 .1 .1 .1 .0 .1 .0 .1) in
     none-ends _ (c .before .before .before .before .args .t3) (omega (arith, c .before .before .before .before .pre .1 .few)) (c .before .loop .i) (omega arith) (c .before .loop .inv .1)
 
 pub ending-of-spec : {M : Type 1} → statement M

@@ -30,7 +30,7 @@ new-requires : tie.Need-new-requires Inv-loop μ-loop
 new-requires c κs = search needs
 
 loop-holds : tie.Need-loop-holds Inv-loop μ-loop
-loop-holds c = (omega arith, (c .new .ensures .0, none-yet _ (c .new .ensures .0) ∙ sym (no-threads _ _)))
+loop-holds c = (omega arith, (c .new .ensures, none-yet _ (c .new .ensures) ∙ sym (no-threads _ _)))
 
 add-entry-at : tie.Need-add-entry-at Inv-loop μ-loop
 add-entry-at c = omega (arith, c .before .before .before .before .before .pre .0)

@@ -24,7 +24,7 @@ new-requires : tie.Need-new-requires Inv-loop μ-loop
 new-requires c κs = search needs
 
 loop-holds : tie.Need-loop-holds Inv-loop μ-loop
-loop-holds c = (omega arith, (c .new .ensures .0, none-yet _ (c .new .ensures .0)))
+loop-holds c = (omega arith, (c .new .ensures, none-yet _ (c .new .ensures)))
 
 mul-e : tie.Need-mul-e Inv-loop μ-loop
 mul-e c = omega (arith, c .before .before .before .pre .1)
@@ -46,7 +46,7 @@ loop-less c = omega arith
 
 loop-again : tie.Need-loop-again Inv-loop μ-loop
 loop-again c =
-    let len = unmapped _ (c .before .before .before .before .before .before .args .t2 .list) 64 (c .before .before .before .before .before .before .good .1 .0 .1 .1 .1 .1 .0 .1 .0 .1) in
+    let len = unmapped _ (c .before .before .before .before .before .before .args .t2 .list) 64 (c .before .before .before .before .before .before .good .1 .0 .1 .1 .1 .0 .1 .0 .1) in
     (omega arith, (omega (arith, c .put .ensures .count, c .before .before .before .before .loop .inv .1 .0), c .put .ensures .list ∙ ap (λ v. v ++ (thread-of (c .before .name-entry .result) ∷ [])) (c .before .before .before .before .loop .inv .1 .1) ∙ sym (rename-more _ (c .before .before .before .before .before .before .args .t2 .list) (c .before .before .before .before .loop .i) _ (omega (arith, c .before .before .before .before .before .before .pre .1)) _ (c .before .name-entry .ensures))))
 
 returns : tie.Need-returns Inv-loop μ-loop

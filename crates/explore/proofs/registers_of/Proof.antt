@@ -36,7 +36,7 @@ gather-requires c κs = c .before .before .loop .inv .1 .0
 
 returns : tie.Need-returns Inv-loop μ-loop
 returns c =
-    let len = unmapped _ (c .before .before .before .before .before .before .args .t1 .list) 64 (c .before .before .before .before .before .before .good .0 .1 .1 .1 .1 .0 .1 .0 .1) in
+    let len = unmapped _ (c .before .before .before .before .before .before .args .t1 .list) 64 (c .before .before .before .before .before .before .good .0 .1 .1 .1 .0 .1 .0 .1) in
     list-over (c .before .before .before .before .before .before .args .t1) (omega (arith, c .before .before .before .before .before .before .pre)) (c .before .before .before .before .loop .i) _ (omega arith) _ (c .before .before .before .before .loop .inv .1 .1) _ (c .before .gather .ensures) (c .if1 .taken)
 
 add-i : tie.Need-add-i Inv-loop μ-loop
@@ -47,7 +47,7 @@ loop-less c = omega arith
 
 loop-again : tie.Need-loop-again Inv-loop μ-loop
 loop-again c =
-    let len = unmapped _ (c .before .before .before .before .before .before .before .args .t1 .list) 64 (c .before .before .before .before .before .before .before .good .0 .1 .1 .1 .1 .0 .1 .0 .1) in
+    let len = unmapped _ (c .before .before .before .before .before .before .before .args .t1 .list) 64 (c .before .before .before .before .before .before .before .good .0 .1 .1 .1 .0 .1 .0 .1) in
     (omega arith, list-on (c .before .before .before .before .before .before .before .args .t1) (omega (arith, c .before .before .before .before .before .before .before .pre)) (c .before .before .before .before .before .loop .i) _ (omega arith) _ (c .before .before .before .before .before .loop .inv .1 .1) _ (c .before .before .gather .ensures) (c .before .if1 .left))
 
 returns-2 : tie.Need-returns-2 Inv-loop μ-loop

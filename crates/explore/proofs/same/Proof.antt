@@ -29,7 +29,7 @@ cast-m c = omega (arith, c .before .shared-slice-known .given (578 * c .before .
 
 returns : tie.Need-returns Inv-loop μ-loop
 returns c =
-    let len = unmapped _ (c .before .before .before .args .t3 .list) 64 (c .before .before .before .good .1 .1 .0 .1 .1 .1 .1 .0 .1 .0 .1) in
+    let len = unmapped _ (c .before .before .before .args .t3 .list) 64 (c .before .before .before .good .1 .1 .0 .1 .1 .1 .0 .1 .0 .1) in
     other-count (c .before .before .before .args .t3) (omega (arith, c .before .before .before .pre .1)) _ _ (c .if1 .taken)
 
 loop-holds : tie.Need-loop-holds Inv-loop μ-loop
@@ -55,7 +55,7 @@ same-entry-requires c κs = omega (arith, c .before .before .before .before .bef
 
 returns-2 : tie.Need-returns-2 Inv-loop μ-loop
 returns-2 c =
-    let len = unmapped _ (c .before .before .before .before .before .before .before .before .args .t3 .list) 64 (c .before .before .before .before .before .before .before .before .good .1 .1 .0 .1 .1 .1 .1 .0 .1 .0 .1) in
+    let len = unmapped _ (c .before .before .before .before .before .before .before .before .args .t3 .list) 64 (c .before .before .before .before .before .before .before .before .good .1 .1 .0 .1 .1 .1 .0 .1 .0 .1) in
     other-entry (c .before .before .before .before .before .before .before .before .args .t3) (omega (arith, c .before .before .before .before .before .before .before .before .pre .1)) (c .before .before .before .before .before .before .before .before .args .work .now) (c .before .before .before .before .before .before .before .before .args .j) (c .before .before .before .before .before .if1 .left) (c .before .before .before .before .loop .i) (omega arith) (sym (c .before .same-entry .ensures) ∙ not-true (c .before .same-entry .result) (c .if2 .taken))
 
 add-i : tie.Need-add-i Inv-loop μ-loop
@@ -69,7 +69,7 @@ loop-again c = (omega arith, same-more (c .before .before .before .before .befor
 
 returns-3 : tie.Need-returns-3 Inv-loop μ-loop
 returns-3 c =
-    let len = unmapped _ (c .before .before .before .before .before .args .t3 .list) 64 (c .before .before .before .before .before .good .1 .1 .0 .1 .1 .1 .1 .0 .1 .0 .1) in
+    let len = unmapped _ (c .before .before .before .before .before .args .t3 .list) 64 (c .before .before .before .before .before .good .1 .1 .0 .1 .1 .1 .0 .1 .0 .1) in
     all-same (c .before .before .before .before .before .args .t3) (omega (arith, c .before .before .before .before .before .pre .1)) (c .before .before .before .before .before .args .work .now) (c .before .before .before .before .before .args .j) (c .before .before .if1 .left) (c .before .loop .i) (omega arith) (c .before .loop .inv .1)
 
 pub same-spec : {M : Type 1} → statement M

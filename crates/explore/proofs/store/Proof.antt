@@ -68,7 +68,7 @@ same-length c = c .before .loop .inv .1 .0 ∙ length-set (set (c .before .befor
 
 returns : tie.Need-returns Inv-loop μ-loop
 returns c =
-    let len = unmapped _ (c .before .before .before .args .t3 .list) 64 (c .before .before .before .good .1 .1 .0 .1 .1 .1 .1 .0 .1 .0 .1) in
+    let len = unmapped _ (c .before .before .before .args .t3 .list) 64 (c .before .before .before .good .1 .1 .0 .1 .1 .1 .0 .1 .0 .1) in
     stored (c .before .before .before .args .t3) (omega (arith, c .before .before .before .pre .0)) (c .before .before .before .pre .0) (c .before .before .before .args .work .now) (c .before .loop .work) (c .before .before .before .args .j) (c .before .before .before .args .count) (c .before .loop .i) (c .before .before .before .pre .1) (omega arith) (omega arith) (c .before .loop .inv .1 .0) (c .before .loop .inv .1 .1 .0) (c .before .loop .inv .1 .1 .1)
 
 pub store-spec : {M : Type 1} → statement M

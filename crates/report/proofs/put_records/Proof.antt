@@ -13,13 +13,13 @@ use Rattle.report.proofs.put_records.Statement.{statement}
 use Rattle.report.proofs.put_records.Tie as tie
 
 abbrev Inv-loop : tie.InvT-loop
-Inv-loop out₀ at table places input from end₀ place₀ out end place = Going out₀ out at end (each (recordLine (tableAt table)) (lines (drop from input))) (each (recordLine (tableAt table)) (lines (drop place input))) × (end ≤ 51 + 72 * place)
+Inv-loop out₀ at table image input from end₀ place₀ out end place = Going out₀ out at end (each (recordLine (tableAt table)) (lines (drop from input))) (each (recordLine (tableAt table)) (lines (drop place input))) × (end ≤ 51 + 72 * place)
 
 abbrev μ-loop : tie.MeasureT-loop
-μ-loop out₀ at table places input from end₀ place₀ out end place = length input - place
+μ-loop out₀ at table image input from end₀ place₀ out end place = length input - place
 
 loop-holds : tie.Need-loop-holds Inv-loop μ-loop
-loop-holds c = (going-none _ _ _, c .before .before .before .pre .low)
+loop-holds c = (going-none _ _ _, c .before .before .before .before .pre .low)
 
 line-end-requires : tie.Need-line-end-requires Inv-loop μ-loop
 line-end-requires c κs = search needs
@@ -35,10 +35,10 @@ part-put-record-end c = search needs
 
 put-record-requires : tie.Need-put-record-requires Inv-loop μ-loop
 put-record-requires c κs =
-    let p = c .before .before .before .before .before .before .before .before .pre in
+    let p = c .before .before .before .before .before .before .before .before .before .pre in
     let g = c .before .before .before .before .loop .inv in
     let s = g .0 .wrote .size in
-    (omega (arith, g .1, p .few, p .wide), p .taken)
+    (omega (arith, g .1, p .few, p .wide), p .mounted)
 
 add-place : tie.Need-add-place Inv-loop μ-loop
 add-place c = search needs
@@ -48,7 +48,7 @@ loop-less c = search needs
 
 loop-again : tie.Need-loop-again Inv-loop μ-loop
 loop-again c =
-    let a = c .before .before .before .before .before .before .before .before .before .before .before .args in
+    let a = c .before .before .before .before .before .before .before .before .before .before .before .before .args in
     let l = c .before .before .before .before .before .before .before .loop in
     let e = c .before .before .before .before .before .line-end .ensures in
     let w = c .before .before .put-record .ensures in
@@ -61,7 +61,7 @@ same-length c = search needs
 
 returns : tie.Need-returns Inv-loop μ-loop
 returns c =
-    let a = c .before .before .before .before .before .args in
+    let a = c .before .before .before .before .before .before .args in
     let l = c .before .loop in
     let n = no-line-left (recordLine (tableAt (a .table .now))) (a .input .now) (l .place) (c .loop-test .left) in
     going-done (subst (Going (a .out .now) (l .out) (a .at) (l .end) (each (recordLine (tableAt (a .table .now))) (lines (drop (a .from) (a .input .now))))) n (l .inv .0))

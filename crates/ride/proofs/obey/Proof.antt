@@ -1,9 +1,9 @@
--- `ride::obey` meets its contract: none, one SET, past the end, SETs only, any. Assumes nothing.
+-- `ride::obey` meets its contract: none, one SET, a block, past the end, SETs only, any. Assumes nothing.
 use lib.IntN.{pos}
 use mir.Syntax.{w16}
 use mir.ValLaws.{toZ-ofZ}
 use Rattle.ground.proofs.Places.{place-fits}
-use Rattle.ride.proofs.Obeying.{obeyed-none, obeyed-one, obeyed-past, obeyed-sets, obeyed-all}
+use Rattle.ride.proofs.Obeying.{obeyed-none, obeyed-one, obeyed-block, obeyed-past, obeyed-sets, obeyed-all}
 use borrow.Author.Needs.{needs}
 use Rattle.ride.proofs.obey.Statement.{statement}
 use Rattle.ride.proofs.obey.Tie as tie
@@ -21,22 +21,28 @@ element-set-from-v : tie.Need-element-set-from-v
 element-set-from-v c = search needs
 
 returns-2 : tie.Need-returns-2
-returns-2 c = rw (c .held .ensures, toZ-ofZ w16 (pos (c .before .before .before .before .args .place)) (place-fits (c .before .before .before .before .args .place) (c .before .before .before .before .pre))) (obeyed-one _ _ _ _ (c .before .before .if1 .left) (c .before .if2 .taken))
+returns-2 c = rw (c .held .ensures, toZ-ofZ w16 (pos (c .before .before .before .before .before .args .place)) (place-fits (c .before .before .before .before .before .args .place) (c .before .before .before .before .before .pre))) (obeyed-one _ _ _ _ (c .before .before .before .if1 .left) (c .before .before .if2 .taken) (c .before .if3 .taken))
+
+obey-block-requires : tie.Need-obey-block-requires
+obey-block-requires c κs = search needs
 
 returns-3 : tie.Need-returns-3
-returns-3 c = obeyed-past _ _ _ _ (c .before .before .if1 .left) (c .before .if2 .left) (c .if3 .taken)
+returns-3 c = obeyed-block _ _ _ _ (c .before .before .before .before .if1 .left) (c .before .before .before .if2 .taken) (c .obey-block .ensures)
+
+returns-4 : tie.Need-returns-4
+returns-4 c = obeyed-past _ _ _ _ (c .before .before .if1 .left) (c .before .if2 .left) (c .if4 .taken)
 
 set-list-requires : tie.Need-set-list-requires
 set-list-requires c κs = search needs
 
-returns-4 : tie.Need-returns-4
-returns-4 c = obeyed-sets _ _ _ _ (c .before .before .before .before .before .if1 .left) (c .before .before .before .before .if2 .left) (c .before .before .before .if3 .left) (c .before .before .if4 .taken) (c .set-list .ensures)
+returns-5 : tie.Need-returns-5
+returns-5 c = obeyed-sets _ _ _ _ (c .before .before .before .before .before .if1 .left) (c .before .before .before .before .if2 .left) (c .before .before .before .if4 .left) (c .before .before .if5 .taken) (c .set-list .ensures)
 
 move-list-requires : tie.Need-move-list-requires
 move-list-requires c κs = search needs
 
-returns-5 : tie.Need-returns-5
-returns-5 c = obeyed-all _ _ _ _ (c .before .before .before .before .before .before .before .if1 .left) (c .before .before .before .before .before .before .if2 .left) (c .before .before .before .before .before .if3 .left) (c .before .before .before .before .if4 .left) (c .move-list .ensures)
+returns-6 : tie.Need-returns-6
+returns-6 c = obeyed-all _ _ _ _ (c .before .before .before .before .before .before .before .if1 .left) (c .before .before .before .before .before .before .if2 .left) (c .before .before .before .before .before .if4 .left) (c .before .before .before .before .if5 .left) (c .move-list .ensures)
 
 pub obey-spec : {M : Type 1} → statement M
 obey-spec =
@@ -47,8 +53,10 @@ obey-spec =
     mul-v
     element-set-from-v
     returns-2
+    obey-block-requires
     returns-3
-    set-list-requires
     returns-4
+    set-list-requires
+    returns-5
     move-list-requires
-    returns-5)
+    returns-6)

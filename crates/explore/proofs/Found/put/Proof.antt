@@ -23,10 +23,9 @@ add-self c = search needs
 returns : tie.Need-returns
 unfolding threads-of
 returns c =
-    let len = unmapped _ (c .args .t1 .list) 64 (c .good .0 .1 .1 .1 .1 .0 .1 .0 .1) in
+    let len = unmapped _ (c .args .t1 .list) 64 (c .good .0 .1 .1 .1 .0 .1 .0 .1) in
     let one = take-suc-set (c .args .t1 .list) (c .args .t1 .n) (c .args .e) (omega arith) in
     record {
-      marks = refl;
       list = rw add-one (ap (λ v. mathlib.Core.List.map thread-of v) one) ∙ map-append thread-of (take (c .args .t1 .n) (c .args .t1 .list)) (c .args .e ∷ []);
       count = refl;
     }

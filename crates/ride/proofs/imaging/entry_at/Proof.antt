@@ -28,10 +28,10 @@ list-sort-requires : tie.Need-list-sort-requires
 list-sort-requires c κs = search needs
 
 packed-requires : tie.Need-packed-requires
-packed-requires c κs = omega (arith, c .list-sort .ensures .0, kind-few (cmdsAt (c .before .before .before .before .before .before .args .s .now) (c .before .before .before .before .before .before .args .at + 4)))
+packed-requires c κs = omega (arith, c .list-sort .ensures .kind, kind-few (cmdsAt (c .before .before .before .before .before .before .args .s .now) (c .before .before .before .before .before .before .args .at + 4)))
 
 returns-2 : tie.Need-returns-2
-returns-2 c = c .packed .ensures ∙ entry-sorted _ _ _ _ _ (sym (c .before .before .before .before .before .read-row .ensures) ∙ c .before .before .before .row .given .1) _ _ (c .before .list-sort .ensures .0) (c .before .list-sort .ensures .1)
+returns-2 c = c .packed .ensures ∙ entry-sorted _ _ _ _ _ (sym (c .before .before .before .before .before .read-row .ensures) ∙ c .before .before .before .row .given .1) _ _ (c .before .list-sort .ensures .kind) (c .before .list-sort .ensures .spot)
 
 pub entry-at-spec : {M : Type 1} → statement M
 entry-at-spec =
