@@ -2,20 +2,19 @@
 use mathlib.Core.Path.{_≡_, refl, sym, ap, _∙_}
 use mathlib.Core.Bool.{Bool, true, false, _&&_, cond}
 use mathlib.Core.List.{List, [], _∷_, _++_, map, append-assoc, append-nil}
-use Prim.Native.Nat.{ℕ, suc, _+_, _≤_, _<_}
+use Prim.Native.Nat.{ℕ, suc, _+_, _*_, _≤_, _<_}
 use native.Mathlib.Numerals.{add-one}
 use native.Mathlib.Omega.{arith}
 use lib.Dec.{eqb}
 use lib.ListN.{length, getD, take, drop, set, length-map, drop-of-length-le}
 use lib.Seq.{drop-cons, getD-take, length-take-le, take-suc-set}
 use borrow.Author.Tests.{eq-eqb, ne-eqb}
+use Rattle.ground.proofs.Lists.{map-append, getD-map}
 use Rattle.paths.specs.Registers.{Key}
 use Rattle.paths.specs.Equal.{same-list}
 use Rattle.card.specs.Table.{Cmd, move, put}
-use Rattle.explore.specs.declared.Regs.{Regs}
-use Rattle.explore.specs.declared.Origin.{Origin}
-use Rattle.explore.specs.Keys.{key-of, keys-of}
-use Rattle.explore.proofs.Bits.{map-append, getD-map}
+use Rattle.explore.specs.Keys.{key-of, keys-at}
+use Rattle.explore.proofs.Naming.{keys-length, keys-at-at}
 use Rattle.build.specs.Card.{commands, same-cmd}
 use Rattle.build.specs.Writing.{order-of, orders-of, command, alike-deeds}
 use Rattle.build.specs.declared.Deed.{Deed}
@@ -24,9 +23,6 @@ use Rattle.build.specs.declared.Orders.{Orders}
 
 abbrev pub no-order : Order
 no-order = record { set = false; to = 0; from = 0 }
-
-abbrev pub no-origin : Origin
-no-origin = record { tag = 0; from = 0 }
 
 -- ---- the array
 
@@ -74,43 +70,57 @@ commands-cons fresh k o os = by (eqb o fresh) (eqb o k) ∙ ap (λ v. command fr
     by false true = refl
     by false false = refl
 
-froms : Regs → List ℕ
-froms r = map (λ k. k .1) (keys-of r)
-
 pub commands-none : (fresh k : ℕ) → commands fresh k [] ≡ []
 unfolding commands
 commands-none fresh k = refl
 
-module _ (fresh : ℕ) (r : Regs) (few : r .n ≤ length (r .list)) where
-  froms-length : length (map (λ (k : Key). k .1) (keys-of r)) ≡ r .n
-  unfolding keys-of
-  froms-length = length-map (map key-of (take (r .n) (r .list))) (λ k. k .1) ∙ length-map (take (r .n) (r .list)) key-of ∙ length-take-le (r .n) (r .list) few
+module _ (fresh : ℕ) (r : List ℕ) (n : ℕ) where
+  froms-length : length (map (λ (k : Key). k .1) (keys-at r 0 n)) ≡ n
+  froms-length = length-map (keys-at r 0 n) (λ k. k .1) ∙ keys-length r 0 n
 
-  from-here : (i : ℕ) → i < r .n → drop i (map (λ (k : Key). k .1) (keys-of r)) ≡ getD (r .list) i no-origin .from ∷ drop (i + 1) (map (λ (k : Key). k .1) (keys-of r))
-  unfolding keys-of key-of
+  from-here : (i : ℕ) → i < n → drop i (map (λ (k : Key). k .1) (keys-at r 0 n)) ≡ getD r (2 * i + 1) 0 ∷ drop (i + 1) (map (λ (k : Key). k .1) (keys-at r 0 n))
   from-here i b =
-      let l = length-take-le (r .n) (r .list) few in
-      let m = length-map (take (r .n) (r .list)) key-of in
-      let z = length-map (map key-of (take (r .n) (r .list))) (λ (k : Key). k .1) in
-      drop-cons (map (λ (k : Key). k .1) (map key-of (take (r .n) (r .list)))) i 0 (omega arith)
-      ∙ ap (λ v. v ∷ drop (suc i) (map (λ (k : Key). k .1) (map key-of (take (r .n) (r .list)))))
-      (getD-map (λ (k : Key). k .1) (map key-of (take (r .n) (r .list))) i (0, 0) 0 (omega arith)
-      ∙ ap (λ (k : Key). k .1) (getD-map key-of (take (r .n) (r .list)) i no-origin (0, 0) (omega arith) ∙ ap key-of (getD-take (r .n) (r .list) i no-origin b)))
-      ∙ ap (λ v. getD (r .list) i no-origin .from ∷ drop v (map (λ (k : Key). k .1) (map key-of (take (r .n) (r .list))))) (sym (add-one i))
+      let m = froms-length in
+      let l = keys-length r 0 n in
+      let z : 0 + i ≡ i = omega arith in
+      drop-cons (map (λ (k : Key). k .1) (keys-at r 0 n)) i 0 (omega arith)
+      ∙ ap (λ v. v ∷ drop (suc i) (map (λ (k : Key). k .1) (keys-at r 0 n)))
+      (getD-map (λ (k : Key). k .1) (keys-at r 0 n) i (0, 0) 0 (omega arith) ∙ ap (λ (k : Key). k .1) (keys-at-at r 0 n i (0, 0) b ∙ ap (key-of r) z))
+      ∙ ap (λ v. getD r (2 * i + 1) 0 ∷ drop v (map (λ (k : Key). k .1) (keys-at r 0 n))) (sym (add-one i))
 
-  pub commands-more : (c c′ : Orders) (i : ℕ) → i < r .n → orders-of c ++ commands fresh i (drop i (map (λ k. k .1) (keys-of r))) ≡ commands fresh 0 (map (λ k. k .1) (keys-of r))
-      → orders-of c′ ≡ orders-of c ++ command fresh i (getD (r .list) i no-origin .from)
-      → orders-of c′ ++ commands fresh (i + 1) (drop (i + 1) (map (λ k. k .1) (keys-of r))) ≡ commands fresh 0 (map (λ k. k .1) (keys-of r))
+  pub commands-more : (c c′ : Orders) (i : ℕ) → i < n → orders-of c ++ commands fresh i (drop i (map (λ k. k .1) (keys-at r 0 n))) ≡ commands fresh 0 (map (λ k. k .1) (keys-at r 0 n))
+      → orders-of c′ ≡ orders-of c ++ command fresh i (getD r (2 * i + 1) 0)
+      → orders-of c′ ++ commands fresh (i + 1) (drop (i + 1) (map (λ k. k .1) (keys-at r 0 n))) ≡ commands fresh 0 (map (λ k. k .1) (keys-at r 0 n))
   commands-more c c′ i b h e =
-      ap (λ v. v ++ commands fresh (i + 1) (drop (i + 1) (map (λ (k : Key). k .1) (keys-of r)))) e
-      ∙ append-assoc (orders-of c) (command fresh i (getD (r .list) i no-origin .from)) (commands fresh (i + 1) (drop (i + 1) (map (λ (k : Key). k .1) (keys-of r))))
-      ∙ ap (λ v. orders-of c ++ v) (sym (commands-cons fresh i (getD (r .list) i no-origin .from) (drop (i + 1) (map (λ (k : Key). k .1) (keys-of r)))) ∙ ap (commands fresh i) (sym (from-here i b)))
+      ap (λ v. v ++ commands fresh (i + 1) (drop (i + 1) (map (λ (k : Key). k .1) (keys-at r 0 n)))) e
+      ∙ append-assoc (orders-of c) (command fresh i (getD r (2 * i + 1) 0)) (commands fresh (i + 1) (drop (i + 1) (map (λ (k : Key). k .1) (keys-at r 0 n))))
+      ∙ ap (λ v. orders-of c ++ v) (sym (commands-cons fresh i (getD r (2 * i + 1) 0) (drop (i + 1) (map (λ (k : Key). k .1) (keys-at r 0 n)))) ∙ ap (commands fresh i) (sym (from-here i b)))
       ∙ h
 
-  pub commands-done : (c : Orders) (i : ℕ) → r .n ≤ i → orders-of c ++ commands fresh i (drop i (map (λ k. k .1) (keys-of r))) ≡ commands fresh 0 (map (λ k. k .1) (keys-of r)) → orders-of c ≡ commands fresh 0 (map (λ k. k .1) (keys-of r))
+  -- one register more: a SET, a MOVE, or nothing
+  module _ (l : List Order) (m i : ℕ) (b : i < n) (in-it : m < length l) (h : orders-of (record { n = m; list = l }) ++ commands fresh i (drop i (map (λ k. k .1) (keys-at r 0 n))) ≡ commands fresh 0 (map (λ k. k .1) (keys-at r 0 n))) where
+    pub commands-set : getD r (2 * i + 1) 0 ≡ fresh → orders-of (record { n = m + 1; list = set l m (record { set = true; to = i; from = 0 }) }) ++ commands fresh (i + 1) (drop (i + 1) (map (λ k. k .1) (keys-at r 0 n))) ≡ commands fresh 0 (map (λ k. k .1) (keys-at r 0 n))
+    unfolding order-of
+    commands-set e =
+        commands-more (record { n = m; list = l }) (record { n = m + 1; list = set l m (record { set = true; to = i; from = 0 }) }) i b h
+        (orders-with (record { n = m; list = l }) (record { set = true; to = i; from = 0 }) in-it _ refl refl ∙ ap (λ v. orders-of (record { n = m; list = l }) ++ v) (sym (filled-set fresh i (getD r (2 * i + 1) 0) e)))
+
+    module _ (g : getD r (2 * i + 1) 0 ≡ fresh → ⊥) where
+      pub commands-move : (getD r (2 * i + 1) 0 ≡ i → ⊥) → orders-of (record { n = m + 1; list = set l m (record { set = false; to = i; from = getD r (2 * i + 1) 0 }) }) ++ commands fresh (i + 1) (drop (i + 1) (map (λ k. k .1) (keys-at r 0 n))) ≡ commands fresh 0 (map (λ k. k .1) (keys-at r 0 n))
+      unfolding order-of
+      commands-move e =
+          commands-more (record { n = m; list = l }) (record { n = m + 1; list = set l m (record { set = false; to = i; from = getD r (2 * i + 1) 0 }) }) i b h
+          (orders-with (record { n = m; list = l }) (record { set = false; to = i; from = getD r (2 * i + 1) 0 }) in-it _ refl refl ∙ ap (λ v. orders-of (record { n = m; list = l }) ++ v) (sym (filled-move fresh i (getD r (2 * i + 1) 0) g e)))
+
+      pub commands-skip : getD r (2 * i + 1) 0 ≡ i → orders-of (record { n = m; list = l }) ++ commands fresh (i + 1) (drop (i + 1) (map (λ k. k .1) (keys-at r 0 n))) ≡ commands fresh 0 (map (λ k. k .1) (keys-at r 0 n))
+      commands-skip e =
+          commands-more (record { n = m; list = l }) (record { n = m; list = l }) i b h
+          (sym (append-nil (orders-of (record { n = m; list = l }))) ∙ ap (λ v. orders-of (record { n = m; list = l }) ++ v) (sym (filled-none fresh i (getD r (2 * i + 1) 0) g e)))
+
+  pub commands-done : (c : Orders) (i : ℕ) → n ≤ i → orders-of c ++ commands fresh i (drop i (map (λ k. k .1) (keys-at r 0 n))) ≡ commands fresh 0 (map (λ k. k .1) (keys-at r 0 n)) → orders-of c ≡ commands fresh 0 (map (λ k. k .1) (keys-at r 0 n))
   commands-done c i b h =
       sym (append-nil (orders-of c)) ∙ ap (λ v. orders-of c ++ v) (sym (commands-none fresh i))
-      ∙ ap (λ v. orders-of c ++ commands fresh i v) (sym (drop-of-length-le (map (λ (k : Key). k .1) (keys-of r)) {i = i} (omega (arith, froms-length)))) ∙ h
+      ∙ ap (λ v. orders-of c ++ commands fresh i v) (sym (drop-of-length-le (map (λ (k : Key). k .1) (keys-at r 0 n)) {i = i} (omega (arith, froms-length)))) ∙ h
 
 -- ---- comparison
 

@@ -2,7 +2,7 @@
 use mathlib.Core.Path.{_≡_, refl, sym, ap, _∙_, subst}
 use mathlib.Core.Bool.{Bool, true, false, _&&_, cond}
 use mathlib.Core.List.{List, [], _∷_, map, append-nil}
-use Prim.Native.Nat.{ℕ, suc, _+_, _-_, _≤_, _<_}
+use Prim.Native.Nat.{ℕ, suc, _+_, _*_, _-_, _≤_, _<_}
 use native.Mathlib.Omega.{arith}
 use lib.Dec.{eqb, eqb→eq, eqb-refl}
 use borrow.Author.Tests.{eq-eqb}
@@ -171,3 +171,8 @@ module _ (A : Net) (S : List State) (s : State) where
 
   pub does-again : (b : ℕ) (d : Deed) → Does A S s b d → Does A S s (b + 1 - 1) d
   does-again b d h = let z : b ≡ b + 1 - 1 = omega arith in subst (λ v. Does A S s v d) z h
+
+  -- what the loop keeps, after byte b
+  pub rows-step : (o₀ : List ℕ) (at₀ : ℕ) (o o′ : List ℕ) (q a : Open) (b : ℕ) → b < 256 → q .at + 196 ≤ at₀ + 196 * b → Left o₀ at₀ (rows-bytes A S s) o (q .at) (rest-rows q b) → Goes-on A S s o o′ q b a
+      → (a .at + 196 ≤ at₀ + 196 * (b + 1)) × (Does A S s (b + 1 - 1) (a .deed) × Left o₀ at₀ (rows-bytes A S s) o′ (a .at) (rest-rows a (b + 1)))
+  rows-step o₀ at₀ o o′ q a b c m h g = (omega (arith, g .within), (does-again b (a .deed) (g .does), rows-on o₀ at₀ o o′ q a b c h g))

@@ -8,8 +8,8 @@ use native.Mathlib.Numerals.{add-one}
 use native.Mathlib.Nat.{max-zero, zero-max, max-eq-left, max-eq-right, max-le, le-max-left, le-max-right}
 use native.Mathlib.Omega.{arith}
 use lib.Dec.{eqb}
-use lib.ListN.{length, getD, take, drop, length-map, drop-of-length-le}
-use lib.Seq.{drop-cons, getD-take, length-take-le}
+use lib.ListN.{length, getD, drop, length-map, drop-of-length-le}
+use lib.Seq.{drop-cons}
 use borrow.Author.Tests.{eqb-true}
 use Rattle.ground.specs.Lists.{each}
 use Rattle.net.specs.Rec.{Rec, range, mask, fork, tag, end, Net, rec}
@@ -17,14 +17,13 @@ use Rattle.paths.specs.Situation.{ending, first-end}
 use Rattle.paths.specs.Registers.{registers, situation}
 use Rattle.card.specs.Table.{put, cmd-bytes, row-bytes, sit-bytes, bytesOf}
 use Rattle.explore.specs.Lists.{span}
-use Rattle.explore.specs.States.{opt, tags-of, thread-of, threads-of}
+use Rattle.explore.specs.States.{opt, tags-of, thread-of}
 use Rattle.explore.specs.Onward.{closing-of}
-use Rattle.explore.specs.Slots.{slot, slots}
+use Rattle.explore.specs.Slots.{thread-at, threads-at, slot, slots, Loaded}
 use Rattle.explore.specs.declared.Entry.{Entry}
-use Rattle.explore.specs.declared.Found.{Found}
 use Rattle.explore.specs.declared.Closing.the-variants.{Open, With}
-use Rattle.explore.proofs.Bits.{getD-map}
-use Rattle.explore.proofs.Exploration.{slots-length, loaded-fit, loaded-count}
+use Rattle.explore.proofs.Memory.{threads-at-length, threads-at-at}
+use Rattle.explore.proofs.Exploration.{slots-length, loaded}
 use Rattle.build.specs.Card.{State, need, most, byte-row, joined, answer-of, field-of, fields-of, sit-of, card-of}
 use Rattle.build.specs.Writing.{Wrote, Closed, Given, Ends, All, rows-bytes, sits-bytes}
 use Rattle.build.specs.declared.Ending.{Ending}
@@ -32,19 +31,18 @@ use Rattle.build.proofs.Writing.{Left, left-all, left-on, left-none}
 
 -- ---- the first END of a list
 
-module _ (s : Found) (few : s .n ≤ length (s .list)) where
-  thread-here : (i : ℕ) (d : Entry) → i < s .n → drop i (threads-of s) ≡ thread-of (getD (s .list) i d) ∷ drop (i + 1) (threads-of s)
-  unfolding threads-of
-  thread-here i d b =
-      let l = length-take-le (s .n) (s .list) few in
-      let m = length-map (take (s .n) (s .list)) thread-of in
-      drop-cons (map thread-of (take (s .n) (s .list))) i (thread-of d) (omega arith)
-      ∙ ap (λ v. v ∷ drop (suc i) (map thread-of (take (s .n) (s .list)))) (getD-map thread-of (take (s .n) (s .list)) i d (thread-of d) (omega arith) ∙ ap thread-of (getD-take (s .n) (s .list) i d b))
-      ∙ ap (λ v. thread-of (getD (s .list) i d) ∷ drop v (map thread-of (take (s .n) (s .list)))) (sym (add-one i))
+module _ (s : List ℕ) where
+  thread-here : (i : ℕ) (e : Entry) → i < getD s 0 0 → thread-of e ≡ thread-at s (2 + 9 * i) → drop i (slot s 0) ≡ thread-of e ∷ drop (i + 1) (slot s 0)
+  unfolding slot
+  thread-here i e b at =
+      let n = threads-at-length s 2 (getD s 0 0) in
+      drop-cons (threads-at s 2 (getD s 0 0)) i (thread-of e) (omega arith)
+      ∙ ap (λ v. v ∷ drop (suc i) (threads-at s 2 (getD s 0 0))) (threads-at-at s 2 (getD s 0 0) i (thread-of e) b ∙ sym at)
+      ∙ ap (λ v. thread-of e ∷ drop v (threads-at s 2 (getD s 0 0))) (sym (add-one i))
 
-  threads-done : (i : ℕ) → s .n ≤ i → drop i (threads-of s) ≡ []
-  unfolding threads-of
-  threads-done i b = drop-of-length-le (map thread-of (take (s .n) (s .list))) {i = i} (omega (arith, length-take-le (s .n) (s .list) few, length-map (take (s .n) (s .list)) thread-of))
+  threads-done : (i : ℕ) → getD s 0 0 ≤ i → drop i (slot s 0) ≡ []
+  unfolding slot
+  threads-done i b = drop-of-length-le (threads-at s 2 (getD s 0 0)) {i = i} (omega (arith, threads-at-length s 2 (getD s 0 0)))
 
 field-is : (v : ℕ) → field-of (opt v) ≡ v
 field-is v = by (eqb v 255) refl
@@ -71,24 +69,24 @@ end-rec (fork p q) x o a e = let z : _≡_ {A = ℕ} 0 1 = cc in absurd (omega a
 end-rec (tag t n) x o a e = let z : _≡_ {A = ℕ} 0 1 = cc in absurd (omega arith)
 end-rec (end b) x o a e = let z : a ≡ b = cc in ap (λ v. some (v, x)) (sym z)
 
-module _ (A : Net) (s : Found) (few : s .n ≤ length (s .list)) (i : ℕ) (d : Entry) (so : first-end A (threads-of s) ≡ first-end A (drop i (threads-of s))) where
-  module _ (b : i < s .n) where
-    at-it : first-end A (threads-of s) ≡ ending (rec A (getD (s .list) i d .on)) (tags-of (getD (s .list) i d .had)) (first-end A (drop (i + 1) (threads-of s)))
+module _ (A : Net) (s : List ℕ) (i : ℕ) (so : first-end A (slot s 0) ≡ first-end A (drop i (slot s 0))) where
+  module _ (b : i < getD s 0 0) (d : Entry) (at : thread-of d ≡ thread-at s (2 + 9 * i)) where
+    at-it : first-end A (slot s 0) ≡ ending (rec A (d .on)) (tags-of (d .had)) (first-end A (drop (i + 1) (slot s 0)))
     unfolding thread-of
-    at-it = so ∙ ap (first-end A) (thread-here s few i d b)
+    at-it = so ∙ ap (first-end A) (thread-here s i d b at)
 
-    pub no-end : Open ≡ closing-of (rec A (getD (s .list) i d .on)) → first-end A (threads-of s) ≡ first-end A (drop (i + 1) (threads-of s))
-    no-end e = at-it ∙ open-rec (rec A (getD (s .list) i d .on)) (tags-of (getD (s .list) i d .had)) (first-end A (drop (i + 1) (threads-of s))) e
+    pub no-end : Open ≡ closing-of (rec A (d .on)) → first-end A (slot s 0) ≡ first-end A (drop (i + 1) (slot s 0))
+    no-end e = at-it ∙ open-rec (rec A (d .on)) (tags-of (d .had)) (first-end A (drop (i + 1) (slot s 0))) e
 
-    pub an-end : (a : ℕ) → With a ≡ closing-of (rec A (getD (s .list) i d .on)) → Ends A (threads-of s) (record { answer = a; had = getD (s .list) i d .had })
+    pub an-end : (a : ℕ) → With a ≡ closing-of (rec A (d .on)) → Ends A (slot s 0) (record { answer = a; had = d .had })
     an-end a e =
-        let h = at-it ∙ end-rec (rec A (getD (s .list) i d .on)) (tags-of (getD (s .list) i d .had)) (first-end A (drop (i + 1) (threads-of s))) a e in
-        record { answer = sym (ap answer-of h); fields = sym (ap fields-of h ∙ fields-are (getD (s .list) i d .had)) }
+        let h = at-it ∙ end-rec (rec A (d .on)) (tags-of (d .had)) (first-end A (drop (i + 1) (slot s 0))) a e in
+        record { answer = sym (ap answer-of h); fields = sym (ap fields-of h ∙ fields-are (d .had)) }
 
-pub none-ends : (A : Net) (s : Found) → s .n ≤ length (s .list) → (i : ℕ) → s .n ≤ i → first-end A (threads-of s) ≡ first-end A (drop i (threads-of s)) → Ends A (threads-of s) (record { answer = 255; had = 255 ∷ 255 ∷ 255 ∷ 255 ∷ 255 ∷ 255 ∷ 255 ∷ 255 ∷ [] })
-none-ends A s few i b so =
-    let h = so ∙ ap (first-end A) (threads-done s few i b) in
-    record { answer = sym (ap answer-of h); fields = sym (ap fields-of h) }
+  pub none-ends : getD s 0 0 ≤ i → Ends A (slot s 0) (record { answer = 255; had = 255 ∷ 255 ∷ 255 ∷ 255 ∷ 255 ∷ 255 ∷ 255 ∷ 255 ∷ [] })
+  none-ends b =
+      let h = so ∙ ap (first-end A) (threads-done s i b) in
+      record { answer = sym (ap answer-of h); fields = sym (ap fields-of h) }
 
 -- ---- bytes of a list
 
@@ -157,17 +155,15 @@ smaller m k h = sym (max-eq-left h)
 
 -- ---- one situation
 
-module _ (A : Net) (N : ℕ) (w : List ℕ) (count i : ℕ) (all : All A N w count) (b : i < count) (s : Found) (few : s .n ≤ 64) (e : threads-of s ≡ slot w i) where
-  pub given : Given A N w count s (getD w (578 * i + 1) 0)
+module _ (A : Net) (N : ℕ) (w : List ℕ) (count i : ℕ) (all : All A N w count) (b : i < count) (s : List ℕ) (e : Loaded w i s) where
+  pub given : Given A N w count s
   given =
-      let h = all .kept .holds i b in
-      let t = loaded-count N w i s h e in
+      let m = loaded N w i s (all .kept .holds i b) e in
       record {
         kept = all .kept;
-        fit = loaded-fit N w i s h few e;
-        tally = t .0;
-        few = t .1;
-        leads = λ c d. subst (λ v. Closed A (slots w 0 count) v c) (sym e) (all .leads i c b d);
+        holds = m .1;
+        size = e .size;
+        leads = λ c d. subst (λ v. Closed A (slots w 0 count) v c) (sym (m .0)) (all .leads i c b d);
       }
 
 pub sit-is : (A : Net) (S : List State) (s s₀ : State) (e : Ending) → s ≡ s₀ → Ends A s e → 0x22 ∷ e .answer ∷ (e .had ++ rows-bytes A S s) ≡ sit-bytes (sit-of A S s₀)

@@ -14,10 +14,8 @@ use Rattle.paths.specs.Equal.{same-list, same-situation}
 use Rattle.paths.specs.Numbering.{among}
 use Rattle.card.specs.Table.{Cmd, move, put, Row, row-bytes, sit-bytes}
 use Rattle.explore.specs.Lists.{span, position}
-use Rattle.explore.specs.States.{threads-of, Fit}
 use Rattle.explore.specs.Slots.{slot, slots}
-use Rattle.explore.specs.Explore.{Kept}
-use Rattle.explore.specs.declared.Found.{Found}
+use Rattle.explore.specs.Explore.{Holds, Kept}
 use Rattle.build.specs.Card.{State, need, commands, same-cmd, byte-row, ahead, joined, answer-of, fields-of, sit-of}
 use Rattle.build.specs.declared.Order.{Order}
 use Rattle.build.specs.declared.Orders.{Orders}
@@ -56,13 +54,12 @@ pub record Does (A : Net) (S : List State) (s : State) (b : ℕ) (d : Deed) : Ty
   pub next : d .next ≡ position same-situation (next A b s) S
   pub cmds : orders-of (d .orders) ≡ commands (need s) 0 (origins A b s)
 
--- s is one of the situations in the work memory, with its count of registers, and all that bytes lead to is there too
-pub record Given (A : Net) (N : ℕ) (w : List ℕ) (count : ℕ) (s : Found) (regs : ℕ) : Type 0 where
+-- s is one of the situations in the work memory, and all that bytes lead to is there too
+pub record Given (A : Net) (N : ℕ) (w : List ℕ) (count : ℕ) (s : List ℕ) : Type 0 where
   pub kept : Kept N w count
-  pub fit : Fit N s
-  pub tally : regs ≡ length (registers (threads-of s))
-  pub few : regs ≤ 64
-  pub leads : (b : ℕ) → b < 256 → Closed A (slots w 0 count) (threads-of s) b
+  pub holds : Holds N s 0
+  pub size : length s ≡ 578
+  pub leads : (b : ℕ) → b < 256 → Closed A (slots w 0 count) (slot s 0) b
 
 -- after byte b, which joined the open row q or closed it: what has been written, and what is still to be written whatever rows follow
 pub record Goes-on (A : Net) (S : List State) (s : State) (o o′ : List ℕ) (q : Open) (b : ℕ) (a : Open) : Type 0 where

@@ -1,8 +1,7 @@
 ghost use mathlib.Core.Path.{_≡_};
-ghost use mathlib.Core.Bool.{Bool, true, false};
-ghost use mathlib.Core.List.{List, [], _∷_, _++_, map};
-ghost use Prim.Native.Nat.{ℕ, _+_, _-_, _*_, _<_, _≤_};
-ghost use lib.ListN.{length, getD, set, replicate};
+ghost use mathlib.Core.List.{[], _∷_, _++_, map};
+ghost use Prim.Native.Nat.{_+_, _-_, _*_, _<_, _≤_};
+ghost use lib.ListN.{length, replicate};
 ghost use Rattle.ground.specs.Lists.{each};
 ghost use Rattle.paths.specs.Equal.{same-list};
 ghost use Rattle.paths.specs.Registers.{registers, situation};
@@ -10,18 +9,15 @@ ghost use Rattle.card.specs.Table.{put, cmd-bytes, row-bytes, sit-bytes, bytesO
 ghost use Rattle.explore.specs.Lists.{span};
 ghost use Rattle.net.specs.Items.{net-at};
 ghost use Rattle.explore.specs.Items.{Formed};
-ghost use Rattle.explore.specs.States.{threads-of, Fit};
-ghost use Rattle.explore.specs.Slots.{slot, slots};
-ghost use Rattle.explore.specs.Keys.{keys-of};
-ghost use Rattle.explore.specs.Explore.{Kept, Told};
+ghost use Rattle.explore.specs.Slots.{slot, slots, Fit};
+ghost use Rattle.explore.specs.Keys.{keys-at};
+ghost use Rattle.explore.specs.Explore.{Holds, Kept, Told};
 ghost use Rattle.build.specs.Card.{same-cmd, commands, most, sit-of, card-of};
 ghost use Rattle.build.specs.Writing.{order-of, orders-of, command, row-of, Wrote, Closed, Does, alike-deeds, Given, Goes-on, rows-bytes, sits-bytes, Ends, All, Needs};
 ghost use Rattle.build.specs.Build.{refusal, Makes, Attempts, Builds};
 use answers::OUT_SMALL;
 use answers::WORK_SMALL;
 use explore::Closing;
-use explore::Found;
-use explore::Regs;
 
 // From an automaton file to a table file, in lent work memory.
 
@@ -39,66 +35,41 @@ pub struct Orders {
     pub list: [Order; 64],
 }
 
-impl Orders {
-    fn new() -> Orders
-        ensures { λ a. ⌜ a .n ≡ 0 ⌝ }
-    {
-        let o = Order {
-            set: true,
-            to: 0,
-            from: 0,
-        };
-        let list = [o; 64];
-        Orders { n: 0, list }
-    }
-
-    fn with(mut self, o: Order) -> Orders
-        requires { ⌜ self .n < 64 ⌝ }
-        ensures { λ a. ⌜ (orders-of a ≡ orders-of self ++ (order-of o ∷ [])) × (a .n ≡ self .n + 1) ⌝ }
-    {
-        let n = self.n;
-        self.list[n] = o;
-        self.n = n + 1;
-        self
-    }
-
-    // Register k filled from `from`: a MOVE onto itself is left out.
-    fn fill(self, fresh: u8, k: u8, from: u8) -> Orders
-        requires { ⌜ self .n < 64 ⌝ }
-        ensures { λ a. ⌜ (orders-of a ≡ orders-of self ++ command fresh k from) × (a .n ≤ self .n + 1) ⌝ }
-    {
-        if from == fresh {
-            return self.with(Order {
-                set: true,
-                to: k,
-                from: 0,
-            });
-        }
-        if from == k {
-            return self;
-        }
-        self.with(Order {
-            set: false,
-            to: k,
-            from,
-        })
-    }
-}
-
-// The commands that fill the registers from where each comes from; `fresh` stands for the place of the byte.
-fn commands_of(fresh: u8, regs: Regs) -> Orders
-    requires { ⌜ regs .n ≤ 64 ⌝ }
-    ensures { λ a. ⌜ (a .n ≤ 64) × (orders-of a ≡ commands fresh 0 (map (λ k. k .1) (keys-of regs))) ⌝ }
+// The commands that fill n registers from where each comes from; `fresh` stands for the place of the byte.
+// A MOVE onto itself is left out.
+fn commands_of(fresh: u8, regs: &[u8], n: usize) -> Orders
+    requires { ⌜ (n ≤ 64) × (length (now regs) ≡ 128) ⌝ }
+    ensures { λ a. ⌜ (a .n ≤ 64) × (orders-of a ≡ commands fresh 0 (map (λ k. k .1) (keys-at (now (regs .entry)) 0 n))) ⌝ }
 {
-    let n = regs.n;
-    let mut c = Orders::new();
+    let none = Order {
+        set: true,
+        to: 0,
+        from: 0,
+    };
+    let mut list = [none; 64];
+    let mut m: usize = 0;
     let mut k: usize = 0;
     while k < n {
-        let o = regs.list[k];
-        c = c.fill(fresh, k as u8, o.from);
+        let from = regs[2 * k + 1];
+        let to = k as u8;
+        if from == fresh {
+            list[m] = Order {
+                set: true,
+                to,
+                from: 0,
+            };
+            m += 1;
+        } else if from != to {
+            list[m] = Order {
+                set: false,
+                to,
+                from,
+            };
+            m += 1;
+        }
         k += 1;
     }
-    c
+    Orders { n: m, list }
 }
 
 fn same_order(a: Order, b: Order) -> bool
@@ -212,29 +183,21 @@ fn same_deed(a: Deed, b: Deed) -> bool
     same_orders(c, d)
 }
 
-// What byte b does in the situation s, which has `regs` registers.
-fn byte_deed(
-    file: &[u8],
-    offs: &[usize],
-    work: &[u8],
-    s: Found,
-    regs: u8,
-    count: usize,
-    b: u8,
-) -> Deed
+// What byte b does in the situation s.
+fn byte_deed(file: &[u8], offs: &[usize], work: &[u8], s: &[u8], count: usize, b: u8) -> Deed
     requires { ⌜ Formed (now file) (now offs) ⌝ }
     requires { ⌜ Kept (length (now offs)) (now work) count ⌝ }
-    requires { ⌜ Fit (length (now offs)) s × ((regs ≡ length (registers (threads-of s))) × (regs ≤ 64)) ⌝ }
-    requires { ⌜ Closed (net-at (now file) (now offs)) (slots (now work) 0 count) (threads-of s) b ⌝ }
-    ensures { λ a. ⌜ Does (net-at (now (file .entry)) (now (offs .entry))) (slots (now (work .entry)) 0 count) (threads-of s) b a ⌝ }
+    requires { ⌜ Holds (length (now offs)) (now s) 0 × (length (now s) ≡ 578) ⌝ }
+    requires { ⌜ Closed (net-at (now file) (now offs)) (slots (now work) 0 count) (slot (now s) 0) b ⌝ }
+    ensures { λ a. ⌜ Does (net-at (now (file .entry)) (now (offs .entry))) (slots (now (work .entry)) 0 count) (slot (now (s .entry)) 0) b a ⌝ }
 {
-    let t = explore::next_of(file, offs, regs, s, b);
-    let q = t.sit;
-    let j = explore::place(work, count, q);
-    let r = t.regs;
+    let mut list = [0u8; 578];
+    let mut regs = [0u8; 128];
+    let k = explore::next_of(file, offs, s, b, &mut list, &mut regs);
+    let j = explore::place(work, count, &list);
     Deed {
         next: j as u8,
-        orders: commands_of(regs, r),
+        orders: commands_of(s[1], &regs, k),
     }
 }
 
@@ -249,25 +212,20 @@ pub struct Open {
 fn row_step(
     file: &[u8],
     offs: &[usize],
-    news: &[u8],
     work: &[u8],
     out: &mut [u8],
-    s: Found,
-    regs: u8,
+    s: &[u8],
     count: usize,
     q: Open,
     b: u8,
 ) -> Open
-    requires { ⌜ Formed (now file) (now offs) × Told (net-at (now file) (now offs)) (length (now offs)) (now news) ⌝ }
-    requires { ⌜ Given (net-at (now file) (now offs)) (length (now offs)) (now work) count s regs ⌝ }
+    requires { ⌜ Formed (now file) (now offs) ⌝ }
+    requires { ⌜ Given (net-at (now file) (now offs)) (length (now offs)) (now work) count (now s) ⌝ }
     requires { ⌜ (0 < b) × (q .at + 196 ≤ 8000000) ⌝ }
-    requires { ⌜ Does (net-at (now file) (now offs)) (slots (now work) 0 count) (threads-of s) (b - 1) (q .deed) ⌝ }
-    ensures { λ a. ⌜ Goes-on (net-at (now (file .entry)) (now (offs .entry))) (slots (now (work .entry)) 0 count) (threads-of s) (now (out .entry)) (now (out .exit)) q b a ⌝ }
+    requires { ⌜ Does (net-at (now file) (now offs)) (slots (now work) 0 count) (slot (now s) 0) (b - 1) (q .deed) ⌝ }
+    ensures { λ a. ⌜ Goes-on (net-at (now (file .entry)) (now (offs .entry))) (slots (now (work .entry)) 0 count) (slot (now (s .entry)) 0) (now (out .entry)) (now (out .exit)) q b a ⌝ }
 {
-    if news[b as usize] == 0 {
-        return q;
-    }
-    let e = byte_deed(file, offs, work, s, regs, count, b);
+    let e = byte_deed(file, offs, work, s, count, b);
     let d = q.deed;
     if same_deed(d, e) {
         return q;
@@ -280,24 +238,23 @@ fn row_step(
     }
 }
 
-// All rows of the situation s.
+// All rows of the situation s. A byte that is not fresh does what the byte before it does.
 fn emit_rows(
     file: &[u8],
     offs: &[usize],
     news: &[u8],
     work: &[u8],
     out: &mut [u8],
-    s: Found,
-    regs: u8,
+    s: &[u8],
     count: usize,
     at: usize,
 ) -> usize
     requires { ⌜ Formed (now file) (now offs) × Told (net-at (now file) (now offs)) (length (now offs)) (now news) ⌝ }
-    requires { ⌜ Given (net-at (now file) (now offs)) (length (now offs)) (now work) count s regs ⌝ }
+    requires { ⌜ Given (net-at (now file) (now offs)) (length (now offs)) (now work) count (now s) ⌝ }
     requires { ⌜ at + 50176 ≤ 8000000 ⌝ }
-    ensures { λ r. ⌜ Wrote (now (out .entry)) (now (out .exit)) at (rows-bytes (net-at (now (file .entry)) (now (offs .entry))) (slots (now (work .entry)) 0 count) (threads-of s)) r × (r ≤ at + 50176) ⌝ }
+    ensures { λ r. ⌜ Wrote (now (out .entry)) (now (out .exit)) at (rows-bytes (net-at (now (file .entry)) (now (offs .entry))) (slots (now (work .entry)) 0 count) (slot (now (s .entry)) 0)) r × (r ≤ at + 50176) ⌝ }
 {
-    let first = byte_deed(file, offs, work, s, regs, count, 0);
+    let first = byte_deed(file, offs, work, s, count, 0);
     let mut q = Open {
         at,
         lo: 0,
@@ -305,7 +262,9 @@ fn emit_rows(
     };
     let mut b: usize = 1;
     while b < 256 {
-        q = row_step(file, offs, news, work, out, s, regs, count, q, b as u8);
+        if news[b] != 0 {
+            q = row_step(file, offs, work, out, s, count, q, b as u8);
+        }
         b += 1;
     }
     let d = q.deed;
@@ -320,15 +279,15 @@ pub struct Ending {
     pub had: [u8; 8],
 }
 
-fn ending_of(file: &[u8], offs: &[usize], s: Found) -> Ending
+fn ending_of(file: &[u8], offs: &[usize], s: &[u8]) -> Ending
     requires { ⌜ Formed (now file) (now offs) ⌝ }
-    requires { ⌜ Fit (length (now offs)) s ⌝ }
-    ensures { λ a. ⌜ Ends (net-at (now (file .entry)) (now (offs .entry))) (threads-of s) a ⌝ }
+    requires { ⌜ Fit (length (now offs)) (now s) ⌝ }
+    ensures { λ a. ⌜ Ends (net-at (now (file .entry)) (now (offs .entry))) (slot (now (s .entry)) 0) a ⌝ }
 {
-    let n = s.n;
+    let n = s[0] as usize;
     let mut i: usize = 0;
     while i < n {
-        let e = s.list[i];
+        let e = explore::entry_at(s, 2 + 9 * i);
         let c = explore::end_at(file, offs, e.on);
         let had = e.had;
         if let Closing::With(answer) = c {
@@ -370,12 +329,11 @@ fn emit_sit(
     ensures { λ r. ⌜ Wrote (now (out .entry)) (now (out .exit)) at (sit-bytes (sit-of (net-at (now (file .entry)) (now (offs .entry))) (slots (now (work .entry)) 0 count) (slot (now (work .entry)) i))) r × (r ≤ at + 50186) ⌝ }
 {
     let s = explore::load(work, i);
-    let regs = work[578 * i + 1];
-    let e = ending_of(file, offs, s);
+    let e = ending_of(file, offs, &s);
     let p = emit(out, at, 0x22);
     let q = emit(out, p, e.answer);
     let r = emit_fields(out, q, e);
-    emit_rows(file, offs, news, work, out, s, regs, count, r)
+    emit_rows(file, offs, news, work, out, &s, count, r)
 }
 
 fn emit_sits(

@@ -1,14 +1,14 @@
 -- What a byte does at a record, and over a list. Assumes nothing.
 use mathlib.Core.Path.{_≡_, refl, sym, ap, _∙_, subst}
 use mathlib.Core.Bool.{Bool, true, false, _&&_, cond}
-use mathlib.Core.List.{List, [], _∷_, _++_, map, foldl, append-nil}
+use mathlib.Core.List.{List, [], _∷_, _++_, foldl, append-nil}
 use Prim.Native.Nat.{ℕ, zero, suc, _+_, _*_, _-_, _/_, _%_, _^_, _≤_, _<_}
 use native.Mathlib.Omega.{arith}
-use native.Mathlib.Numerals.{add-one}
 use lib.Dec.{eqb, leb}
-use lib.ListN.{length, getD, take, drop, set, length-set}
-use lib.Seq.{getD-take, getD-drop, take-suc, getD-set-same}
+use lib.ListN.{length, getD, take, drop, set, replicate, length-set}
+use lib.Seq.{getD-take, getD-drop, getD-set-same}
 use borrow.Author.Tests.{eq-eqb, ne-eqb, le-leb, lt-leb}
+use Rattle.ground.proofs.Lists.{each-append}
 use Rattle.net.specs.Rec.{Rec, range, mask, fork, tag, end, Net, rec, bit}
 use Rattle.paths.specs.Ways.{Move, eat}
 use Rattle.ground.specs.Lists.{each}
@@ -17,18 +17,17 @@ use Rattle.paths.specs.Situation.{bite, on-byte}
 use Rattle.paths.specs.Registers.{Tags, tagged, step}
 use Rattle.paths.specs.Marks.{Marked, marking, marked-close}
 use Rattle.paths.proofs.Marking.{marked-right}
-use Rattle.paths.proofs.Heart.{each-append}
 use Rattle.net.specs.Items.{rec-at, net-at}
 use Rattle.net.proofs.Inside.{net-length}
 use Rattle.explore.specs.Items.{Inside, Formed, lands}
-use Rattle.explore.specs.States.{Below, Fit, thread-of, threads-of}
-use Rattle.explore.specs.Slots.{threads-at, slot}
+use Rattle.explore.specs.States.{Below, thread-of}
+use Rattle.explore.specs.Slots.{thread-at, threads-at, slot, Fit}
 use Rattle.explore.specs.Visit.{Ready, Means}
 use Rattle.explore.specs.declared.Entry.{Entry}
-use Rattle.explore.specs.declared.Found.{Found}
 use Rattle.explore.proofs.Reading.{net-inside}
-use Rattle.explore.proofs.Bits.{map-append}
-use Rattle.explore.proofs.Memory.{slot-first}
+use Rattle.explore.proofs.Bits.{foldl-append}
+use Rattle.explore.proofs.Memory.{threads-snoc, slot-first}
+use Rattle.explore.proofs.Going.{new-means}
 
 module _ (b lo hi n : ℕ) where
   pub range-in-it : lo ≤ b → b ≤ hi → n ≡ lands (bite b (range lo hi n))
@@ -113,57 +112,54 @@ module _ {F offs : List ℕ} (w : Formed F offs) (k b : ℕ) (e : Entry) (on : e
         rw (q, n) (ih m h)
 
 -- over a list
-foldl-append : {A B : Type 0} (g : B → A → B) (z : B) (l k : List A) → foldl g z (l ++ k) ≡ foldl g (foldl g z l) k
-foldl-append g z [] k = refl
-foldl-append g z (x ∷ l) k = foldl-append g (g z x) l k
-
-pub one-more : {B : Type 0} (g : B → Thread Tags → B) (z : B) (h : Thread Tags → List (Thread Tags)) (l : List Entry) (i : ℕ) (d : Entry) → i < length l
-    → foldl g z (each h (map thread-of (take (i + 1) l))) ≡ foldl g (foldl g z (each h (map thread-of (take i l)))) (h (thread-of (getD l i d)))
-one-more g z h l i d b =
-    ap (λ v. foldl g z (each h (map thread-of v))) (ap (λ j. take j l) (add-one i) ∙ take-suc l i d b)
-    ∙ ap (λ v. foldl g z (each h v)) (map-append thread-of (take i l) (getD l i d ∷ []))
-    ∙ ap (λ v. foldl g z v) (each-append h (map thread-of (take i l)) (thread-of (getD l i d) ∷ []) ∙ ap (λ v. each h (map thread-of (take i l)) ++ v) (append-nil (h (thread-of (getD l i d)))))
-    ∙ foldl-append g z (each h (map thread-of (take i l))) (h (thread-of (getD l i d)))
-
-pub below-at : (N : ℕ) (l : List Entry) (n i : ℕ) (d : Entry) → n ≤ length l → i < n → Below N (map thread-of (take n l)) → getD l i d .on < N
-unfolding thread-of
-below-at N [] n i d s b h = absurd (omega arith)
-below-at N (x ∷ l) zero i d s b h = absurd (omega arith)
-below-at N (x ∷ l) (suc n) zero d s b h = h .0
-below-at N (x ∷ l) (suc n) (suc i) d s b h = below-at N l n i d (omega arith) (omega arith) (h .1)
-
 -- one thread more
-pub means-more : (k : ℕ) (A : Net) (b : ℕ) (l : List Entry) (i : ℕ) (d : Entry) → i < length l → {M w : List ℕ} {n : ℕ}
-    → Means M w n (foldl (marking (tagged k) A (suc (length A))) (foldl (marking (tagged k) A (suc (length A))) (record { marks = []; list = [] }) (each (on-byte (tagged k) A b) (map thread-of (take i l)))) (on-byte (tagged k) A b (thread-of (getD l i d))))
-    → Means M w n (foldl (marking (tagged k) A (suc (length A))) (record { marks = []; list = [] }) (each (on-byte (tagged k) A b) (map thread-of (take (i + 1) l))))
-means-more k A b l i d s {M} {w} {n} h =
-    subst (λ v. Means M w n v) (sym (one-more (marking (tagged k) A (suc (length A))) (record { marks = []; list = [] }) (on-byte (tagged k) A b) l i d s)) h
+pub means-more : (k : ℕ) (A : Net) (b : ℕ) (l : List ℕ) (i : ℕ) (e : Entry) → thread-of e ≡ thread-at l (2 + 9 * i) → {M w : List ℕ} {n : ℕ}
+    → Means M w n (foldl (marking (tagged k) A (suc (length A))) (foldl (marking (tagged k) A (suc (length A))) (record { marks = []; list = [] }) (each (on-byte (tagged k) A b) (threads-at l 2 i))) (on-byte (tagged k) A b (thread-of e)))
+    → Means M w n (foldl (marking (tagged k) A (suc (length A))) (record { marks = []; list = [] }) (each (on-byte (tagged k) A b) (threads-at l 2 (i + 1))))
+means-more k A b l i e at {M} {w} {n} h = subst (λ v. Means M w n v) (sym (ap (λ v. foldl g z (each f v)) (threads-snoc l 2 i) ∙ ap (foldl g z) split ∙ foldl-append g z (each f (threads-at l 2 i)) (f (thread-of e)))) h
+  where
+    g : Marked Tags → Thread Tags → Marked Tags
+    g = marking (tagged k) A (suc (length A))
+
+    z : Marked Tags
+    z = record { marks = []; list = [] }
+
+    f : Thread Tags → List (Thread Tags)
+    f = on-byte (tagged k) A b
+
+    split : each f (threads-at l 2 i ++ (thread-at l (2 + 9 * i) ∷ [])) ≡ each f (threads-at l 2 i) ++ f (thread-of e)
+    split = each-append f (threads-at l 2 i) (thread-at l (2 + 9 * i) ∷ []) ∙ ap (λ v. each f (threads-at l 2 i) ++ v) (append-nil (f (thread-at l (2 + 9 * i))) ∙ ap f (sym at))
+
+below-thread : (N : ℕ) (w : List ℕ) (a n i : ℕ) → i < n → Below N (threads-at w a n) → thread-at w (a + 9 * i) .on < N
+unfolding threads-at
+below-thread N w a zero i b h = absurd (omega arith)
+below-thread N w a (suc n) zero b h = let z : a ≡ a + 9 * 0 = omega arith in subst (λ v. thread-at w v .on < N) z (h .0)
+below-thread N w a (suc n) (suc i) b h = let z : a + 9 + 9 * i ≡ a + 9 * suc i = omega arith in subst (λ v. thread-at w v .on < N) z (below-thread N w (a + 9) n i (omega arith) (h .1))
+
+pub below-at : (N : ℕ) (w : List ℕ) (i : ℕ) (e : Entry) → i < getD w 0 0 → Below N (slot w 0) → thread-of e ≡ thread-at w (2 + 9 * i) → e .on < N
+unfolding slot thread-of
+below-at N w i e b h at = subst (λ v. v .on < N) (sym at) (below-thread N w 2 (getD w 0 0) i b h)
+
+-- no thread yet
+pub means-none : (k : ℕ) (A : Net) (b : ℕ) (l w : List ℕ) → Means (replicate 64 0) w 0 (foldl (marking (tagged k) A (suc (length A))) (record { marks = []; list = [] }) (each (on-byte (tagged k) A b) (threads-at l 2 0)))
+unfolding threads-at
+means-none k A b l w = new-means w
 
 -- the end of `sweep`
-pub swept : (k : ℕ) (A : Net) (b : ℕ) (s : Found) (M l : List ℕ) (c i : ℕ) → i ≡ s .n
-    → Means M l c (foldl (marking (tagged k) A (suc (length A))) (record { marks = []; list = [] }) (each (on-byte (tagged k) A b) (map thread-of (take i (s .list)))))
-    → threads-at l 2 c ≡ step A k b (threads-of s)
-unfolding threads-of step marked-close
+pub swept : (k : ℕ) (A : Net) (b : ℕ) (s M l : List ℕ) (c i : ℕ) → i ≡ getD s 0 0
+    → Means M l c (foldl (marking (tagged k) A (suc (length A))) (record { marks = []; list = [] }) (each (on-byte (tagged k) A b) (threads-at s 2 i)))
+    → threads-at l 2 c ≡ step A k b (slot s 0)
+unfolding slot step marked-close
 swept k A b s M l c i z h =
     h .list
-    ∙ ap (λ j. foldl (marking (tagged k) A (suc (length A))) (record { marks = []; list = [] }) (each (on-byte (tagged k) A b) (map thread-of (take j (s .list)))) .list) z
-    ∙ ap (λ v. v .list) (marked-right (tagged k) A (each (on-byte (tagged k) A b) (map thread-of (take (s .n) (s .list)))))
+    ∙ ap (λ j. foldl (marking (tagged k) A (suc (length A))) (record { marks = []; list = [] }) (each (on-byte (tagged k) A b) (threads-at s 2 j)) .list) z
+    ∙ ap (λ v. v .list) (marked-right (tagged k) A (each (on-byte (tagged k) A b) (threads-at s 2 (getD s 0 0))))
 
-pub fit-below : (N : ℕ) (f : Found) → Fit N f → Below N (map thread-of (take (f .n) (f .list)))
-unfolding threads-of
-fit-below N f h = h .below
-
--- the list of `visit`, with its count, can be loaded
-pub loadable : (N : ℕ) (M w : List ℕ) (n : ℕ) → Ready N M w n → (578 * 0 + 578 ≤ length (set w 0 n)) × (getD (set w 0 n) (578 * 0) 0 ≤ 64)
-loadable N M w n h =
-    let s = length-set w 0 n in
-    let g = getD-set-same w 0 n 0 (omega (arith, h .size)) in
-    (omega (arith, h .size), omega (arith, h .room, h .few))
-
--- the list of `visit`, loaded
-module _ (N : ℕ) (M w : List ℕ) (n : ℕ) (h : Ready N M w n) (f : Found) (few : f .n ≤ 64) (e : threads-of f ≡ slot (set w 0 n) 0) where
-  pub loaded : threads-of f ≡ threads-at w 2 n
-  loaded = e ∙ slot-first w n (h .size)
-
-  pub loaded-fit : Fit N f
-  loaded-fit = record { few = few; below = rw loaded (h .below) }
+-- the list of `visit`, with its count
+pub counted-fit : (N : ℕ) (M w : List ℕ) (n : ℕ) → Ready N M w n → Fit N (set w 0 n)
+counted-fit N M w n h =
+    record {
+      size = length-set w 0 n ∙ h .size;
+      few = omega (arith, getD-set-same w 0 n 0 (omega (arith, h .size)), h .room, h .few);
+      below = rw (slot-first w n (h .size)) (h .below);
+    }

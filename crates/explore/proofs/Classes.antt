@@ -1,7 +1,7 @@
 -- A byte that every record treats as the byte before it leads nowhere new. Assumes nothing.
 use mathlib.Core.Path.{_≡_, refl, sym, ap, subst, _∙_}
 use mathlib.Core.Logic.{_⊎_, inl, inr}
-use mathlib.Core.Bool.{Bool, true, false, _||_}
+use mathlib.Core.Bool.{true, false}
 use mathlib.Core.List.{List, [], _∷_, _++_, map}
 use Prim.Native.Nat.{ℕ, _+_, _-_, _<_}
 use native.Mathlib.Omega.{arith}
@@ -27,6 +27,7 @@ use Rattle.explore.specs.Explore.{Alike, Told}
 use Rattle.explore.proofs.Reading.{net-inside}
 use Rattle.explore.proofs.Biting.{bite-some, bite-none}
 use Rattle.explore.proofs.Exploration.{once-snoc}
+use Rattle.explore.proofs.Bits.{or-true}
 
 module _ {F offs : List ℕ} (w : Formed F offs) (b c : ℕ) (same : (r : ℕ) → r < length offs → lands (bite b (rec (net-at F offs) r)) ≡ lands (bite c (rec (net-at F offs) r))) (k : ℕ) where
   byte-same : (s : Thread Tags) → s .on < length offs → on-byte (tagged k) (net-at F offs) b s ≡ on-byte (tagged k) (net-at F offs) c s
@@ -69,10 +70,6 @@ module _ {F offs : List ℕ} (w : Formed F offs) (b : ℕ) (a : Alike (net-at F 
     where
       self : (x : Sit) → same-situation x x ≡ true
       self x = situation-test x x .1 refl
-
-      or-true : (c : Bool) → c || true ≡ true
-      or-true true = refl
-      or-true false = refl
 
       at-end : (f : List Sit) (x : Sit) → among same-situation x (f ++ (x ∷ [])) ≡ true
       at-end [] x = rw (self x)

@@ -17,10 +17,7 @@ use Rattle.ground.proofs.Members.{Prefix, getD-mem}
 use Rattle.paths.proofs.Builder.{situation-test, found-first, found-all}
 use Rattle.paths.proofs.Limits.{closed-next}
 use Rattle.explore.specs.Lists.{span}
-
-or-true : (c : Bool) → (c || true) ≡ true
-or-true true = refl
-or-true false = refl
+use Rattle.explore.proofs.Bits.{or-true}
 
 mem-among : {s : Sit} {l : List Sit} → List·Memᴰ s l → among same-situation s l ≡ true
 mem-among {s} (List·Memᴰ·head {x = x} e) = rw (situation-test s x .1 e)

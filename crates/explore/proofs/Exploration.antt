@@ -10,6 +10,7 @@ use lib.Dec.{eqb}
 use lib.ListN.{length, getD, take, length-append}
 use lib.Seq.{ext-getD, drop-cons}
 use borrow.Author.Tests.{eqb-true, eqb-false}
+use Rattle.ground.proofs.Lists.{map-append}
 use Rattle.net.specs.Rec.{Net}
 use Rattle.paths.specs.Search.{choose}
 use Rattle.ground.specs.Lists.{each}
@@ -17,17 +18,14 @@ use Rattle.paths.specs.Registers.{registers, next}
 use Rattle.paths.specs.Equal.{same-situation}
 use Rattle.paths.specs.Numbering.{among, put, once, nexts, explored}
 use Rattle.paths.proofs.Member.{Bool-cases}
-use Rattle.explore.specs.States.{threads-of, Below, Fit}
+use Rattle.explore.specs.States.{Below}
 use Rattle.explore.specs.Keys.{Stepped, Begun}
-use Rattle.explore.specs.Slots.{threads-at, slot, slots, Stored, Placed}
+use Rattle.explore.specs.Slots.{threads-at, slot, slots, Stored, Loaded, Fit, Placed}
 use Rattle.paths.specs.Limits.{bytes}
 use Rattle.paths.specs.Limits.{Sit, Too-many-registers, Too-many-situations, first, here, partly, at-start, at-byte}
 use Rattle.explore.specs.Explore.{Holds, Kept, Tries, Expands, Explores}
-use Rattle.explore.specs.declared.Found.{Found}
-use Rattle.explore.specs.declared.Numbered.{Numbered}
 use Rattle.explore.specs.declared.Tried.{Tried}
-use Rattle.explore.proofs.Bits.{map-append}
-use Rattle.explore.proofs.Memory.{threads-at-same}
+use Rattle.explore.proofs.Memory.{threads-at-same, slot-moved}
 
 put-known : (found : List Sit) (s : Sit) → among same-situation s found ≡ true → put same-situation found s ≡ found
 put-known found s e = rw e
@@ -84,8 +82,8 @@ module _ (w w′ : List ℕ) (n : ℕ) (l : Sit) (c : ℕ) (s : Stored w w′ n 
 no : {P : Type 0} {a b : ℕ} → a ≡ b → (a ≡ b → ⊥) → P
 no e h = absurd (h e)
 
-module _ (A : Net) (N : ℕ) (w : List ℕ) (count : ℕ) (l : Sit) (b : ℕ) (k : Kept N w count) (t : Numbered) (step : Stepped A N b l t) where
-  pub tried-over : t .over ≡ true → Tries A N w w count l b (record { answer = 10; count = count })
+module _ (A : Net) (N : ℕ) (w : List ℕ) (count : ℕ) (l : Sit) (b : ℕ) (k : Kept N w count) (v r : List ℕ) (t : ℕ) (step : Stepped A N b l v r t) where
+  pub tried-over : 64 < t → Tries A N w w count l b (record { answer = 10; count = count })
   tried-over o =
       record {
         size = refl;
@@ -95,34 +93,34 @@ module _ (A : Net) (N : ℕ) (w : List ℕ) (count : ℕ) (l : Sit) (b : ℕ) (k
         one-of = λ p q. absurd (q refl);
       }
 
-  module _ (o : t .over ≡ false) where
-    pub tried-old : (j : ℕ) → Placed w count (threads-of (t .sit)) j → j < count → Tries A N w w count l b (record { answer = 0; count = count })
+  module _ (o : t ≤ 64) where
+    pub tried-old : (j : ℕ) → Placed w count (slot v 0) j → j < count → Tries A N w w count l b (record { answer = 0; count = count })
     tried-old j p c =
         record {
           size = refl;
-          fine = λ _. (k, sym (put-known (slots w 0 count) (next A b l) (subst (λ v. among same-situation v (slots w 0 count) ≡ true) (step .is .sit o) (p .found c .0))));
+          fine = λ _. (k, sym (put-known (slots w 0 count) (next A b l) (subst (λ u. among same-situation u (slots w 0 count) ≡ true) (step .is .sit o) (p .found c .0))));
           regs = λ e. absurd (omega arith);
           sits = λ e. absurd (omega arith);
           one-of = λ p q. absurd (p refl);
         }
 
-    missing : (j : ℕ) → Placed w count (threads-of (t .sit)) j → count ≤ j → among same-situation (next A b l) (slots w 0 count) ≡ false
-    missing j p c = subst (λ v. among same-situation v (slots w 0 count) ≡ false) (step .is .sit o) (p .missing (omega (arith, p .within)))
+    missing : (j : ℕ) → Placed w count (slot v 0) j → count ≤ j → among same-situation (next A b l) (slots w 0 count) ≡ false
+    missing j p c = subst (λ u. among same-situation u (slots w 0 count) ≡ false) (step .is .sit o) (p .missing (omega (arith, p .within)))
 
-    pub tried-full : (j : ℕ) → Placed w count (threads-of (t .sit)) j → count ≤ j → 96 ≤ count → Tries A N w w count l b (record { answer = 11; count = count })
+    pub tried-full : (j : ℕ) → Placed w count (slot v 0) j → count ≤ j → 96 ≤ count → Tries A N w w count l b (record { answer = 11; count = count })
     tried-full j p c f =
         record {
           size = refl;
           fine = λ e. absurd (omega arith);
           regs = λ e. absurd (omega arith);
-          sits = λ _. record { most = omega (arith, slots-length w 0 count, k .most); new = missing j p c; needs = omega (arith, step .is .few o, step .is .count o); small = λ j d. by j (omega arith) };
+          sits = λ _. record { most = omega (arith, slots-length w 0 count, k .most); new = missing j p c; needs = omega (arith, step .is .count o); small = λ j d. by j (omega arith) };
           one-of = λ p q. refl;
         }
       where
         by : (j : ℕ) → j < count → length (registers (getD (slots w 0 count) j [])) ≤ 64
         by j d = let z : 0 + j ≡ j = omega arith in rw (slots-at w 0 count j [] d ∙ ap (slot w) z) (k .holds j d .small)
 
-    pub tried-new : (j : ℕ) → Placed w count (threads-of (t .sit)) j → count ≤ j → count < 96 → (w′ : List ℕ) → Stored w w′ count (threads-of (t .sit)) (t .regs .n) → Tries A N w w′ count l b (record { answer = 0; count = count + 1 })
+    pub tried-new : (j : ℕ) → Placed w count (slot v 0) j → count ≤ j → count < 96 → (w′ : List ℕ) → Stored w w′ count (slot v 0) (getD v 1 0) → Tries A N w w′ count l b (record { answer = 0; count = count + 1 })
     tried-new j p c f w′ s =
         record {
           size = s .size;
@@ -140,8 +138,8 @@ module _ (A : Net) (N : ℕ) (w : List ℕ) (count : ℕ) (l : Sit) (b : ℕ) (k
         last =
             record {
               few = s .few;
-              count = s .count ∙ step .is .count o ∙ ap (λ v. length (registers v)) (sym (s .here ∙ step .is .sit o));
-              small = omega (arith, step .is .few o, step .is .count o, ap (λ v. length (registers v)) (s .here ∙ step .is .sit o));
+              count = s .count ∙ step .is .tally o ∙ step .is .count o ∙ ap (λ v. length (registers v)) (sym (s .here ∙ step .is .sit o));
+              small = omega (arith, step .is .count o, ap (λ v. length (registers v)) (s .here ∙ step .is .sit o));
               below = subst (λ v. Below N v) (sym (s .here)) (step .is .fit .below);
             }
 
@@ -209,11 +207,18 @@ expanded A N w₀ w count n l l₀ same b e size k h =
       one-of = λ p q. absurd (p refl);
     })
 
-pub loaded-fit : (N : ℕ) (w : List ℕ) (i : ℕ) (s : Found) → Holds N w i → s .n ≤ 64 → threads-of s ≡ slot w i → Fit N s
-loaded-fit N w i s h few e = record { few = few; below = subst (λ v. Below N v) (sym e) (h .below) }
+-- a situation that is loaded
+pub loaded : (N : ℕ) (w : List ℕ) (i : ℕ) (l : List ℕ) → Holds N w i → Loaded w i l → (slot l 0 ≡ slot w i) × Holds N l 0
+loaded N w i l h e =
+    let m = slot-moved w l i (omega (arith, h .few, zeroth)) (λ k c. sym (e .same k c)) in
+    let q = sym (m .1) in
+    (q, record { few = omega (arith, h .few, zeroth); count = e .same 1 (omega arith) ∙ h .count ∙ ap (λ v. length (registers v)) (m .1); small = rw q (h .small); below = rw q (h .below) })
+  where
+    zeroth : getD l 0 0 ≡ getD w (578 * i) 0
+    zeroth = let z : 578 * i + 0 ≡ 578 * i = omega arith in e .same 0 (omega arith) ∙ ap (λ v. getD w v 0) z
 
-pub loaded-count : (N : ℕ) (w : List ℕ) (i : ℕ) (s : Found) → Holds N w i → threads-of s ≡ slot w i → (getD w (578 * i + 1) 0 ≡ length (registers (threads-of s))) × (getD w (578 * i + 1) 0 ≤ 64)
-loaded-count N w i s h e = (h .count ∙ ap (λ v. length (registers v)) (sym e), omega (arith, h .count, h .small))
+pub holds-fit : (N : ℕ) (l : List ℕ) → length l ≡ 578 → Holds N l 0 → Fit N l
+holds-fit N l size h = record { size = size; few = h .few; below = h .below }
 
 -- ---- the loop over the situations
 
@@ -278,8 +283,8 @@ explored-all-of A N w₀ w count i e size k h =
       one-of = λ p q. absurd (p refl);
     }
 
-module _ (A : Net) (N : ℕ) (w : List ℕ) (t : Numbered) (g : Begun A N t) where
-  pub start-over : t .over ≡ true → Explores A N w w (record { answer = 10; count = 0 })
+module _ (A : Net) (N : ℕ) (w v r : List ℕ) (t : ℕ) (g : Begun A N v r t) where
+  pub start-over : 64 < t → Explores A N w w (record { answer = 10; count = 0 })
   start-over o =
       record {
         size = refl;
@@ -289,7 +294,7 @@ module _ (A : Net) (N : ℕ) (w : List ℕ) (t : Numbered) (g : Begun A N t) whe
         one-of = λ p q. absurd (q refl);
       }
 
-  module _ (o : t .over ≡ false) (room : 65536 ≤ length w) (w′ : List ℕ) (s : Stored w w′ 0 (threads-of (t .sit)) (t .regs .n)) where
+  module _ (o : t ≤ 64) (room : 65536 ≤ length w) (w′ : List ℕ) (s : Stored w w′ 0 (slot v 0) (getD v 1 0)) where
     pub start-kept : Kept N w′ 1
     start-kept = record { room = omega (arith, s .size); most = omega arith; holds = one }
       where
@@ -297,8 +302,8 @@ module _ (A : Net) (N : ℕ) (w : List ℕ) (t : Numbered) (g : Begun A N t) whe
         first-slot =
             record {
               few = s .few;
-              count = s .count ∙ g .is .count o ∙ ap (λ v. length (registers v)) (sym (s .here ∙ g .is .sit o));
-              small = omega (arith, g .is .few o, g .is .count o, ap (λ v. length (registers v)) (s .here ∙ g .is .sit o));
+              count = s .count ∙ g .is .tally o ∙ g .is .count o ∙ ap (λ v. length (registers v)) (sym (s .here ∙ g .is .sit o));
+              small = omega (arith, g .is .count o, ap (λ v. length (registers v)) (s .here ∙ g .is .sit o));
               below = subst (λ v. Below N v) (sym (s .here)) (g .is .fit .below);
             }
 

@@ -8,7 +8,8 @@ use Prim.Native.Nat.{ℕ, zero, suc, _+_, _*_, _-_, _<_}
 use native.Mathlib.Omega.{arith}
 use lib.Dec.{eqb}
 use lib.ListN.{length, set, replicate}
-use borrow.Author.Tests.{ne-eqb, eqb-true, eqb-false}
+use borrow.Author.Tests.{eqb-true, eqb-false}
+use Rattle.ground.proofs.Lists.{map-set}
 use Rattle.net.specs.Rec.{Rec, range, mask, fork, tag, end, Net, rec}
 use Rattle.paths.specs.Search.{has, Thread}
 use Rattle.paths.specs.Situation.{quiet, on-quiet}
@@ -16,16 +17,15 @@ use Rattle.paths.specs.Registers.{Tags, tagged, stands}
 use Rattle.paths.specs.Marks.{Marked, marked-with, marking}
 use Rattle.paths.proofs.Member.{Bool-cases}
 use Rattle.explore.specs.Onward.{onward-of}
-use Rattle.explore.specs.States.{Below, opt, tags-of, thread-of, threads-of, marked, count-of, Marked-by}
+use Rattle.explore.specs.States.{Below, opt, tags-of, thread-of, marked, count-of, Marked-by}
 use Rattle.explore.specs.Slots.{threads-at, Put-at}
 use Rattle.explore.specs.Visit.{Ready, Means}
 use Rattle.explore.specs.declared.Entry.{Entry}
-use Rattle.explore.specs.declared.Found.{Found}
 use Rattle.explore.specs.declared.Onward.the-variants.{Stay, Both, Store}
 use Rattle.net.specs.Items.{net-at}
 use Rattle.explore.specs.Items.{Formed}
 use Rattle.explore.proofs.Reading.{net-inside}
-use Rattle.explore.proofs.Bits.{map-set, has-last, has-else, ones-le, zeros-unmarked}
+use Rattle.explore.proofs.Bits.{opt-some, has-last, has-else, ones-le, zeros-unmarked}
 use Rattle.explore.proofs.Memory.{listed, no-threads}
 
 -- a way tells the record
@@ -50,9 +50,6 @@ way-stay (mask bits n) e = (refl, refl)
 way-stay (fork a b) e = absurd (let z : _≡_ {A = ℕ} 0 1 = cc in omega arith)
 way-stay (tag t n) e = absurd (let z : _≡_ {A = ℕ} 0 1 = cc in omega arith)
 way-stay (end a) e = (refl, refl)
-
-opt-some : (k : ℕ) → k < 255 → opt k ≡ some k
-opt-some k h = rw (ne-eqb k 255 (λ e. omega arith))
 
 module _ (k : ℕ) (A : Net) where
   module _ (s : Thread Tags) (m : Marked Tags) where
@@ -95,7 +92,7 @@ module _ (k : ℕ) (A : Net) where
   on-tag : (e : Entry) {t x : ℕ} → k < 255 → rec A (e .on) ≡ tag t x → (a : Entry) → a .on ≡ x → a .had ≡ set (e .had) t k
       → on-quiet (tagged k) A (thread-of e) ≡ thread-of a ∷ []
   unfolding on-quiet thread-of
-  on-tag e {t} {x} b q a p1 p2 = rw (q, p1, p2) (ap (λ v. record { on = x; had = v } ∷ []) (sym (map-set opt (e .had) t k ∙ ap (λ v. set (tags-of (e .had)) t v) (opt-some k b))))
+  on-tag e {t} {x} b q a p1 p2 = rw (q, p1, p2) (ap (λ v. record { on = x; had = v } ∷ []) (sym (map-set opt (e .had) t k ∙ ap (λ v. set (tags-of (e .had)) t v) (opt-some k (λ e. omega arith)))))
 
   on-none : (e : Entry) → quiet (rec A (e .on)) ≡ [] → on-quiet (tagged k) A (thread-of e) ≡ []
   unfolding on-quiet thread-of
@@ -173,10 +170,6 @@ module _ {F offs : List ℕ} (w : Formed F offs) (r : ℕ) (b : r < length offs)
   store-inside e = rw (way-store (rec (net-at F offs) r) e) at (net-inside w r b)
 
 -- nothing yet
-pub none-yet : (f : Found) → f .n ≡ 0 → threads-of f ≡ []
-unfolding threads-of
-none-yet f z = rw z
-
 module _ (w : List ℕ) where
   pub new-ready : (N : ℕ) → length w ≡ 578 → Ready N (replicate 64 0) w 0
   unfolding count-of

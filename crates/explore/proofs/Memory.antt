@@ -1,28 +1,28 @@
 -- Situations in the work memory, byte by byte. Assumes nothing.
 use mathlib.Core.Path.{_≡_, refl, sym, ap, _∙_}
 use mathlib.Core.Logic.{_⊎_, inl, inr}
-use mathlib.Core.Bool.{Bool, true, false, _||_}
+use mathlib.Core.Bool.{true, false}
 use mathlib.Core.List.{List, [], _∷_, _++_}
 use mathlib.Core.Option.{none}
 use Prim.Native.Nat.{ℕ, zero, suc, _+_, _*_, _-_, _≤_, _<_}
 use native.Mathlib.Omega.{arith}
 use native.Mathlib.Numerals.{add-one}
 use lib.Dec.{eqb}
-use lib.ListN.{length, getD, take, set, length-map, length-set}
-use lib.Seq.{getD-set-same, getD-set-other, getD-take, length-take-le, ext-getD}
+use lib.ListN.{length, getD, take, set, length-set}
+use lib.Seq.{getD-set-same, getD-set-other, ext-getD}
 use borrow.Author.Tests.{eqb-true, eqb-false}
+use Rattle.ground.proofs.Lists.{getD-map}
 use Rattle.paths.specs.Search.{Thread}
 use Rattle.paths.specs.Registers.{Tags}
 use Rattle.paths.specs.Equal.{same-thread, same-situation}
 use Rattle.paths.specs.Numbering.{among}
 use Rattle.paths.proofs.Member.{Bool-cases}
 use Rattle.paths.proofs.Builder.{thread-eq, thread-refl, situation-test}
-use Rattle.explore.specs.States.{opt, tags-of, thread-of, threads-of}
+use Rattle.explore.specs.States.{opt, tags-of, thread-of}
 use Rattle.explore.specs.Lists.{position}
 use Rattle.explore.specs.Slots.{row, thread-at, threads-at, slot, slots, Put-at, Stored, Placed}
 use Rattle.explore.specs.declared.Entry.{Entry}
-use Rattle.explore.specs.declared.Found.{Found}
-use Rattle.explore.proofs.Bits.{getD-map}
+use Rattle.explore.proofs.Bits.{or-true}
 
 pub row-is : (w l : List ℕ) (k n : ℕ) → length l ≡ n → ((i : ℕ) → i < n → getD w (k + i) 0 ≡ getD l i 0) → row w k n ≡ l
 unfolding row
@@ -46,12 +46,21 @@ row-at w k zero i b = absurd (omega arith)
 row-at w k (suc n) zero b = let z : k ≡ k + 0 = omega arith in ap (λ j. getD w j 0) z
 row-at w k (suc n) (suc i) b = row-at w (k + 1) n i (omega arith) ∙ (let q : k + 1 + i ≡ k + suc i = omega arith in ap (λ j. getD w j 0) q)
 
-pub thread-at-same : (w w′ : List ℕ) (at : ℕ) → ((k : ℕ) → at ≤ k → k < at + 9 → getD w′ k 0 ≡ getD w k 0) → thread-at w′ at ≡ thread-at w at
+-- the same nine bytes at another place
+pub thread-at-moved : (w l : List ℕ) (a b : ℕ) → ((i : ℕ) → i < 9 → getD w (a + i) 0 ≡ getD l (b + i) 0) → thread-at w a ≡ thread-at l b
 unfolding thread-at
-thread-at-same w w′ at h =
-    let a = h at (omega arith) (omega arith) in
-    let b : row w′ (at + 1) 8 ≡ row w (at + 1) 8 = row-is w′ (row w (at + 1) 8) (at + 1) 8 (row-length w (at + 1) 8) (λ i c. h (at + 1 + i) (omega arith) (omega arith) ∙ sym (row-at w (at + 1) 8 i c)) in
-    λ i. record { on = a i; had = tags-of (b i) }
+thread-at-moved w l a b h =
+    let x : a + 0 ≡ a = omega arith in
+    let y : b + 0 ≡ b = omega arith in
+    let p : getD w a 0 ≡ getD l b 0 = ap (λ j. getD w j 0) (sym x) ∙ h 0 (omega arith) ∙ ap (λ j. getD l j 0) y in
+    let q : row w (a + 1) 8 ≡ row l (b + 1) 8 = row-is w (row l (b + 1) 8) (a + 1) 8 (row-length l (b + 1) 8) (λ i c. step i c ∙ sym (row-at l (b + 1) 8 i c)) in
+    λ i. record { on = p i; had = tags-of (q i) }
+  where
+    step : (i : ℕ) → i < 8 → getD w (a + 1 + i) 0 ≡ getD l (b + 1 + i) 0
+    step i c =
+        let x : a + 1 + i ≡ a + (1 + i) = omega arith in
+        let y : b + (1 + i) ≡ b + 1 + i = omega arith in
+        ap (λ j. getD w j 0) x ∙ h (1 + i) (omega arith) ∙ ap (λ j. getD l j 0) y
 
 pub thread-at-is : (w : List ℕ) (at : ℕ) (e : Entry) → length (e .had) ≡ 8 → getD w at 0 ≡ e .on → ((k : ℕ) → k < 8 → getD w (at + 1 + k) 0 ≡ getD (e .had) k 0) → thread-at w at ≡ thread-of e
 unfolding thread-at thread-of
@@ -79,30 +88,30 @@ wrote w₀ w at e t room n t1 t2 size h g =
     off k (inr b) z = omega arith
 
 -- one byte more
-pub wrote-more : (w w₀ : List ℕ) (at t : ℕ) (had : List ℕ) → at + 1 + t < length w
-    → ((k : ℕ) → k < t → getD w (at + 1 + k) 0 ≡ getD had k 0)
-    → (k : ℕ) → k < t + 1 → getD (set w (at + 1 + t) (getD had t 0)) (at + 1 + k) 0 ≡ getD had k 0
-wrote-more w w₀ at t had b h k c = by (Bool-cases (eqb k t))
+pub wrote-more : (w : List ℕ) (a t : ℕ) (had : List ℕ) → a + t < length w
+    → ((k : ℕ) → k < t → getD w (a + k) 0 ≡ getD had k 0)
+    → (k : ℕ) → k < t + 1 → getD (set w (a + t) (getD had t 0)) (a + k) 0 ≡ getD had k 0
+wrote-more w a t had b h k c = by (Bool-cases (eqb k t))
   where
-    by : (eqb k t ≡ true) ⊎ (eqb k t ≡ false) → getD (set w (at + 1 + t) (getD had t 0)) (at + 1 + k) 0 ≡ getD had k 0
-    by (inl e) = let q = eqb-true k t e in rw q (getD-set-same w (at + 1 + t) (getD had t 0) 0 b)
-    by (inr e) = let q = eqb-false k t e in getD-set-other w (at + 1 + t) (at + 1 + k) (getD had t 0) 0 (λ z. q (omega arith)) ∙ h k (lt-of-ne k t c q)
+    by : (eqb k t ≡ true) ⊎ (eqb k t ≡ false) → getD (set w (a + t) (getD had t 0)) (a + k) 0 ≡ getD had k 0
+    by (inl e) = let q = eqb-true k t e in rw q (getD-set-same w (a + t) (getD had t 0) 0 b)
+    by (inr e) = let q = eqb-false k t e in getD-set-other w (a + t) (a + k) (getD had t 0) 0 (λ z. q (omega arith)) ∙ h k (lt-of-ne k t c q)
       where
         lt-of-ne : (k t : ℕ) → k < t + 1 → (k ≡ t → ⊥) → k < t
         lt-of-ne k t a q = omega arith
 
-pub else-more : (w w₀ : List ℕ) (at t v : ℕ) → ((k : ℕ) → (k < at + 1) ⊎ (at + 1 + t ≤ k) → getD w k 0 ≡ getD w₀ k 0) → (k : ℕ) → (k < at + 1) ⊎ (at + 1 + (t + 1) ≤ k) → getD (set w (at + 1 + t) v) k 0 ≡ getD w₀ k 0
-else-more w w₀ at t v h k (inl b) = getD-set-other w (at + 1 + t) k v 0 (λ z. omega arith) ∙ h k (inl b)
-else-more w w₀ at t v h k (inr b) = getD-set-other w (at + 1 + t) k v 0 (λ z. omega arith) ∙ h k (inr (omega arith))
+pub else-more : (w w₀ : List ℕ) (a t v : ℕ) → ((k : ℕ) → (k < a) ⊎ (a + t ≤ k) → getD w k 0 ≡ getD w₀ k 0) → (k : ℕ) → (k < a) ⊎ (a + (t + 1) ≤ k) → getD (set w (a + t) v) k 0 ≡ getD w₀ k 0
+else-more w w₀ a t v h k (inl b) = getD-set-other w (a + t) k v 0 (λ z. omega arith) ∙ h k (inl b)
+else-more w w₀ a t v h k (inr b) = getD-set-other w (a + t) k v 0 (λ z. omega arith) ∙ h k (inr (omega arith))
 
 -- ---- `entry_at`
 
-pub read-more : (w had : List ℕ) (at t : ℕ) → t < length had → ((k : ℕ) → k < t → getD w (at + 1 + k) 0 ≡ getD had k 0) → (k : ℕ) → k < t + 1 → getD w (at + 1 + k) 0 ≡ getD (set had t (getD w (at + 1 + t) 0)) k 0
-read-more w had at t b h k c = by (Bool-cases (eqb k t))
+pub read-more : (w had : List ℕ) (a t : ℕ) → t < length had → ((k : ℕ) → k < t → getD w (a + k) 0 ≡ getD had k 0) → (k : ℕ) → k < t + 1 → getD w (a + k) 0 ≡ getD (set had t (getD w (a + t) 0)) k 0
+read-more w had a t b h k c = by (Bool-cases (eqb k t))
   where
-    by : (eqb k t ≡ true) ⊎ (eqb k t ≡ false) → getD w (at + 1 + k) 0 ≡ getD (set had t (getD w (at + 1 + t) 0)) k 0
-    by (inl e) = let q = eqb-true k t e in rw q (sym (getD-set-same had t (getD w (at + 1 + t) 0) 0 b))
-    by (inr e) = let q = eqb-false k t e in h k (omega arith) ∙ sym (getD-set-other had t k (getD w (at + 1 + t) 0) 0 q)
+    by : (eqb k t ≡ true) ⊎ (eqb k t ≡ false) → getD w (a + k) 0 ≡ getD (set had t (getD w (a + t) 0)) k 0
+    by (inl e) = let q = eqb-true k t e in rw q (sym (getD-set-same had t (getD w (a + t) 0) 0 b))
+    by (inr e) = let q = eqb-false k t e in h k (omega arith) ∙ sym (getD-set-other had t k (getD w (a + t) 0) 0 q)
 
 -- ---- `same_entry`
 
@@ -171,13 +180,28 @@ threads-snoc w a n = ap (threads-at w a) (add-one n) ∙ by a n
     by a zero = let z : a ≡ a + 9 * 0 = omega arith in ap (λ v. thread-at w v ∷ []) z
     by a (suc n) = ap (λ v. thread-at w a ∷ v) (by (a + 9) n ∙ (let z : a + 9 + 9 * n ≡ a + 9 * suc n = omega arith in ap (λ v. threads-at w (a + 9) n ++ (thread-at w v ∷ [])) z))
 
-pub threads-at-same : (w w′ : List ℕ) (a n : ℕ) → ((k : ℕ) → a ≤ k → k < a + 9 * n → getD w′ k 0 ≡ getD w k 0) → threads-at w′ a n ≡ threads-at w a n
+pub threads-at-moved : (w l : List ℕ) (a b n : ℕ) → ((i : ℕ) → i < 9 * n → getD w (a + i) 0 ≡ getD l (b + i) 0) → threads-at w a n ≡ threads-at l b n
 unfolding threads-at
-threads-at-same w w′ a zero h = refl
-threads-at-same w w′ a (suc n) h =
-    let p = thread-at-same w w′ a (λ k u v. h k u (omega arith)) in
-    let q = threads-at-same w w′ (a + 9) n (λ k u v. h k (omega arith) (omega arith)) in
+threads-at-moved w l a b zero h = refl
+threads-at-moved w l a b (suc n) h =
+    let p = thread-at-moved w l a b (λ i c. h i (omega arith)) in
+    let q = threads-at-moved w l (a + 9) (b + 9) n step in
     λ i. p i ∷ q i
+  where
+    step : (i : ℕ) → i < 9 * n → getD w (a + 9 + i) 0 ≡ getD l (b + 9 + i) 0
+    step i c =
+        let x : a + 9 + i ≡ a + (9 + i) = omega arith in
+        let y : b + (9 + i) ≡ b + 9 + i = omega arith in
+        ap (λ j. getD w j 0) x ∙ h (9 + i) (omega arith) ∙ ap (λ j. getD l j 0) y
+
+pub threads-at-same : (w w′ : List ℕ) (a n : ℕ) → ((k : ℕ) → a ≤ k → k < a + 9 * n → getD w′ k 0 ≡ getD w k 0) → threads-at w′ a n ≡ threads-at w a n
+threads-at-same w w′ a n h = threads-at-moved w′ w a a n (λ i c. h (a + i) (omega arith) (omega arith))
+
+pub take-threads : (w : List ℕ) (a n i : ℕ) → i ≤ n → take i (threads-at w a n) ≡ threads-at w a i
+unfolding threads-at
+take-threads w a n zero b = refl
+take-threads w a zero (suc i) b = absurd (omega arith)
+take-threads w a (suc n) (suc i) b = ap (λ v. thread-at w a ∷ v) (take-threads w (a + 9) n i (omega arith))
 
 -- the list with an entry after it
 pub listed : (w w′ : List ℕ) (n : ℕ) (e : Entry) → Put-at w w′ (2 + 9 * n) e → threads-at w′ 2 (n + 1) ≡ threads-at w 2 n ++ (thread-of e ∷ [])
@@ -190,100 +214,66 @@ slot-first w n h =
     ap (threads-at (set w 0 n) 2) (getD-set-same w 0 n 0 (omega arith))
     ∙ threads-at-same w (set w 0 n) 2 n (λ k u v. getD-set-other w 0 k n 0 (λ z. omega arith))
 
-module _ (s : Found) (few : s .n ≤ length (s .list)) where
-  pub threads-of-length : length (threads-of s) ≡ s .n
-  unfolding threads-of
-  threads-of-length = length-map (take (s .n) (s .list)) thread-of ∙ length-take-le (s .n) (s .list) few
-
-  pub threads-of-at : (i : ℕ) (d : Thread Tags) → i < s .n → getD (threads-of s) i d ≡ thread-of (getD (s .list) i (record { on = 0; had = [] }))
-  unfolding threads-of
-  threads-of-at i d b = let l = length-take-le (s .n) (s .list) few in getD-map thread-of (take (s .n) (s .list)) i (record { on = 0; had = [] }) d (omega arith) ∙ ap thread-of (getD-take (s .n) (s .list) i (record { on = 0; had = [] }) b)
-
 nobody : Thread Tags
 nobody = record { on = 0; had = [] }
 
 -- the same threads
-module _ (s : Found) (few : s .n ≤ length (s .list)) (w : List ℕ) (j : ℕ) where
-  pub slot-is : getD w (578 * j) 0 ≡ s .n → ((k : ℕ) → k < s .n → thread-of (getD (s .list) k (record { on = 0; had = [] })) ≡ thread-at w (578 * j + 2 + 9 * k)) → threads-of s ≡ slot w j
+module _ (l w : List ℕ) (j : ℕ) where
+  pub slot-is : getD w (578 * j) 0 ≡ getD l 0 0 → ((k : ℕ) → k < getD l 0 0 → thread-at l (2 + 9 * k) ≡ thread-at w (578 * j + 2 + 9 * k)) → slot l 0 ≡ slot w j
   unfolding slot
   slot-is e h =
-      ext-getD nobody (threads-of s) (threads-at w (578 * j + 2) (getD w (578 * j) 0)) (threads-of-length s few ∙ sym e ∙ sym (threads-at-length w (578 * j + 2) (getD w (578 * j) 0)))
-      (λ k b. let l = threads-of-length s few in threads-of-at s few k nobody (omega arith) ∙ h k (omega arith) ∙ sym (threads-at-at w (578 * j + 2) (getD w (578 * j) 0) k nobody (omega arith)))
+      ext-getD nobody (threads-at l 2 (getD l 0 0)) (threads-at w (578 * j + 2) (getD w (578 * j) 0)) (threads-at-length l 2 (getD l 0 0) ∙ sym e ∙ sym (threads-at-length w (578 * j + 2) (getD w (578 * j) 0)))
+      (λ k b. let n = threads-at-length l 2 (getD l 0 0) in threads-at-at l 2 (getD l 0 0) k nobody (omega arith) ∙ h k (omega arith) ∙ sym (threads-at-at w (578 * j + 2) (getD w (578 * j) 0) k nobody (omega arith)))
 
-  unlike : (threads-of s ≡ slot w j → ⊥) → false ≡ same-situation (threads-of s) (slot w j)
-  unlike h = by (Bool-cases (same-situation (threads-of s) (slot w j)))
+  unlike : (slot l 0 ≡ slot w j → ⊥) → false ≡ same-situation (slot l 0) (slot w j)
+  unlike h = by (Bool-cases (same-situation (slot l 0) (slot w j)))
     where
-      by : (same-situation (threads-of s) (slot w j) ≡ true) ⊎ (same-situation (threads-of s) (slot w j) ≡ false) → false ≡ same-situation (threads-of s) (slot w j)
-      by (inl e) = absurd (h (situation-test (threads-of s) (slot w j) .0 e))
+      by : (same-situation (slot l 0) (slot w j) ≡ true) ⊎ (same-situation (slot l 0) (slot w j) ≡ false) → false ≡ same-situation (slot l 0) (slot w j)
+      by (inl e) = absurd (h (situation-test (slot l 0) (slot w j) .0 e))
       by (inr e) = sym e
 
-  pub other-count : (getD w (578 * j) 0 ≡ s .n → ⊥) → false ≡ same-situation (threads-of s) (slot w j)
+  pub other-count : (getD w (578 * j) 0 ≡ getD l 0 0 → ⊥) → false ≡ same-situation (slot l 0) (slot w j)
   unfolding slot
-  other-count h = unlike (λ e. h (sym (threads-at-length w (578 * j + 2) (getD w (578 * j) 0)) ∙ ap length (sym e) ∙ threads-of-length s few))
+  other-count h = unlike (λ e. h (sym (threads-at-length w (578 * j + 2) (getD w (578 * j) 0)) ∙ ap length (sym e) ∙ threads-at-length l 2 (getD l 0 0)))
 
-  pub other-entry : getD w (578 * j) 0 ≡ s .n → (i : ℕ) → i < s .n → same-thread (thread-of (getD (s .list) i (record { on = 0; had = [] }))) (thread-at w (578 * j + 2 + 9 * i)) ≡ false → false ≡ same-situation (threads-of s) (slot w j)
+  pub other-entry : getD w (578 * j) 0 ≡ getD l 0 0 → (i : ℕ) → i < getD l 0 0 → (e : Entry) → thread-of e ≡ thread-at l (2 + 9 * i) → same-thread (thread-of e) (thread-at w (578 * j + 2 + 9 * i)) ≡ false → false ≡ same-situation (slot l 0) (slot w j)
   unfolding slot
-  other-entry c i b h = unlike (λ e. no (sym (threads-of-at s few i nobody b) ∙ ap (λ v. getD v i nobody) e ∙ threads-at-at w (578 * j + 2) (getD w (578 * j) 0) i nobody (omega arith)))
+  other-entry c i b d q h = unlike (λ e. no (q ∙ sym (threads-at-at l 2 (getD l 0 0) i nobody b) ∙ ap (λ v. getD v i nobody) e ∙ threads-at-at w (578 * j + 2) (getD w (578 * j) 0) i nobody (omega arith)))
     where
-      no : thread-of (getD (s .list) i (record { on = 0; had = [] })) ≡ thread-at w (578 * j + 2 + 9 * i) → ⊥
+      no : thread-of d ≡ thread-at w (578 * j + 2 + 9 * i) → ⊥
       no e = let q = thread-refl (thread-at w (578 * j + 2 + 9 * i)) in let z : _≡_ {A = ℕ} 0 1 = cc (ap (λ v. same-thread v (thread-at w (578 * j + 2 + 9 * i))) e) in omega arith
 
-  pub all-same : getD w (578 * j) 0 ≡ s .n → (i : ℕ) → s .n ≤ i → ((k : ℕ) → k < i → thread-of (getD (s .list) k (record { on = 0; had = [] })) ≡ thread-at w (578 * j + 2 + 9 * k)) → true ≡ same-situation (threads-of s) (slot w j)
-  all-same c i b h = sym (situation-test (threads-of s) (slot w j) .1 (slot-is c (λ k d. h k (omega arith))))
+  pub all-same : getD w (578 * j) 0 ≡ getD l 0 0 → (i : ℕ) → getD l 0 0 ≤ i → ((k : ℕ) → k < i → thread-at l (2 + 9 * k) ≡ thread-at w (578 * j + 2 + 9 * k)) → true ≡ same-situation (slot l 0) (slot w j)
+  all-same c i b h = sym (situation-test (slot l 0) (slot w j) .1 (slot-is c (λ k d. h k (omega arith))))
 
-pub same-more : (l : List Entry) (w : List ℕ) (a i : ℕ) → ((k : ℕ) → k < i → thread-of (getD l k (record { on = 0; had = [] })) ≡ thread-at w (a + 9 * k)) → true ≡ same-thread (thread-of (getD l i (record { on = 0; had = [] }))) (thread-at w (a + 9 * i))
-    → (k : ℕ) → k < i + 1 → thread-of (getD l k (record { on = 0; had = [] })) ≡ thread-at w (a + 9 * k)
-same-more l w a i h e k c = by (Bool-cases (eqb k i))
+pub same-more : (l w : List ℕ) (a i : ℕ) → ((k : ℕ) → k < i → thread-at l (2 + 9 * k) ≡ thread-at w (a + 9 * k)) → (e : Entry) → thread-of e ≡ thread-at l (2 + 9 * i) → true ≡ same-thread (thread-of e) (thread-at w (a + 9 * i))
+    → (k : ℕ) → k < i + 1 → thread-at l (2 + 9 * k) ≡ thread-at w (a + 9 * k)
+same-more l w a i h d p e k c = by (Bool-cases (eqb k i))
   where
-    by : (eqb k i ≡ true) ⊎ (eqb k i ≡ false) → thread-of (getD l k (record { on = 0; had = [] })) ≡ thread-at w (a + 9 * k)
-    by (inl z) = let q = eqb-true k i z in rw q (thread-eq _ _ (sym e))
+    by : (eqb k i ≡ true) ⊎ (eqb k i ≡ false) → thread-at l (2 + 9 * k) ≡ thread-at w (a + 9 * k)
+    by (inl z) = let q = eqb-true k i z in rw q (sym p ∙ thread-eq _ _ (sym e))
     by (inr z) = let q = eqb-false k i z in h k (omega arith)
 
--- ---- `store`
+-- ---- `store`, `load`
 
-module _ (w w′ : List ℕ) (a i : ℕ) (l : List Entry) (p : Put-at w w′ (a + 9 * i) (getD l i (record { on = 0; had = [] }))) where
-  pub store-more : ((k : ℕ) → k < i → thread-at w (a + 9 * k) ≡ thread-of (getD l k (record { on = 0; had = [] }))) → (k : ℕ) → k < i + 1 → thread-at w′ (a + 9 * k) ≡ thread-of (getD l k (record { on = 0; had = [] }))
-  store-more h k c = by (Bool-cases (eqb k i))
-    where
-      by : (eqb k i ≡ true) ⊎ (eqb k i ≡ false) → thread-at w′ (a + 9 * k) ≡ thread-of (getD l k (record { on = 0; had = [] }))
-      by (inl z) = let q = eqb-true k i z in rw q (p .here)
-      by (inr z) =
-          let q = eqb-false k i z in
-          let m : k < i = omega arith in
-          thread-at-same w w′ (a + 9 * k) (λ b u v. p .else b (inl (omega arith))) ∙ h k m
+pub slot-moved : (w l : List ℕ) (j : ℕ) → getD l 0 0 ≤ 64 → ((k : ℕ) → k < 578 → getD w (578 * j + k) 0 ≡ getD l k 0) → (getD w (578 * j) 0 ≡ getD l 0 0) × (slot w j ≡ slot l 0)
+unfolding slot
+slot-moved w l j few h =
+    let x : 578 * j + 0 ≡ 578 * j = omega arith in
+    let n : getD w (578 * j) 0 ≡ getD l 0 0 = ap (λ v. getD w v 0) (sym x) ∙ h 0 (omega arith) in
+    (n, ap (threads-at w (578 * j + 2)) n ∙ threads-at-moved w l (578 * j + 2) 2 (getD l 0 0) (λ i c. (let y : 578 * j + 2 + i ≡ 578 * j + (2 + i) = omega arith in ap (λ v. getD w v 0) y) ∙ h (2 + i) (omega arith)))
 
-  pub store-else : (w₀ : List ℕ) → ((k : ℕ) → (k < a) ⊎ (a + 9 * i ≤ k) → getD w k 0 ≡ getD w₀ k 0) → (k : ℕ) → (k < a) ⊎ (a + 9 * (i + 1) ≤ k) → getD w′ k 0 ≡ getD w₀ k 0
-  store-else w₀ h k (inl b) = p .else k (inl (omega arith)) ∙ h k (inl b)
-  store-else w₀ h k (inr b) = p .else k (inr (omega arith)) ∙ h k (inr (omega arith))
-
-pub stored : (s : Found) → s .n ≤ length (s .list) → s .n ≤ 64 → (w₀ w : List ℕ) (j c i : ℕ) → 578 * j + 578 ≤ length w₀ → i ≤ s .n → s .n ≤ i
-    → length w ≡ length (set (set w₀ (578 * j) (s .n)) (578 * j + 1) c)
-    → ((k : ℕ) → k < i → thread-at w (578 * j + 2 + 9 * k) ≡ thread-of (getD (s .list) k (record { on = 0; had = [] })))
-    → ((k : ℕ) → (k < 578 * j + 2) ⊎ (578 * j + 2 + 9 * i ≤ k) → getD w k 0 ≡ getD (set (set w₀ (578 * j) (s .n)) (578 * j + 1) c) k 0)
-    → Stored w₀ w j (threads-of s) c
-stored s few small w₀ w j c i room a b size h g =
-    record {
-      size = size ∙ length-set (set w₀ (578 * j) (s .n)) (578 * j + 1) c ∙ length-set w₀ (578 * j) (s .n);
-      few = omega (arith, first);
-      here = sym (slot-is s few w j first (λ k d. sym (h k (omega arith))));
-      count = g (578 * j + 1) (inl (omega arith)) ∙ getD-set-same (set w₀ (578 * j) (s .n)) (578 * j + 1) c 0 (omega (arith, length-set w₀ (578 * j) (s .n)));
-      else = λ k d. g k (by k d) ∙ getD-set-other (set w₀ (578 * j) (s .n)) (578 * j + 1) k c 0 (off k d) ∙ getD-set-other w₀ (578 * j) k (s .n) 0 (off2 k d);
-    }
+pub stored : (l : List ℕ) → getD l 0 0 ≤ 64 → (w₀ w : List ℕ) (j k : ℕ) → k ≡ 578 → length w ≡ length w₀
+    → ((i : ℕ) → i < k → getD w (578 * j + i) 0 ≡ getD l i 0)
+    → ((i : ℕ) → (i < 578 * j) ⊎ (578 * j + k ≤ i) → getD w i 0 ≡ getD w₀ i 0)
+    → Stored w₀ w j (slot l 0) (getD l 1 0)
+stored l few w₀ w j k z size h g =
+    let m = slot-moved w l j few (λ i c. h i (omega arith)) in
+    record { size = size; few = omega (arith, m .0); here = m .1; count = h 1 (omega arith); else = λ i d. g i (by i d) }
   where
-    first : getD w (578 * j) 0 ≡ s .n
-    first = g (578 * j) (inl (omega arith)) ∙ getD-set-other (set w₀ (578 * j) (s .n)) (578 * j + 1) (578 * j) c 0 (λ z. omega arith) ∙ getD-set-same w₀ (578 * j) (s .n) 0 (omega arith)
-
-    by : (k : ℕ) → (k < 578 * j) ⊎ (578 * j + 578 ≤ k) → (k < 578 * j + 2) ⊎ (578 * j + 2 + 9 * i ≤ k)
-    by k (inl b) = inl (omega arith)
-    by k (inr b) = inr (omega arith)
-
-    off : (k : ℕ) → (k < 578 * j) ⊎ (578 * j + 578 ≤ k) → k ≡ 578 * j + 1 → ⊥
-    off k (inl b) z = omega arith
-    off k (inr b) z = omega arith
-
-    off2 : (k : ℕ) → (k < 578 * j) ⊎ (578 * j + 578 ≤ k) → k ≡ 578 * j → ⊥
-    off2 k (inl b) z = omega arith
-    off2 k (inr b) z = omega arith
+    by : (i : ℕ) → (i < 578 * j) ⊎ (578 * j + 578 ≤ i) → (i < 578 * j) ⊎ (578 * j + k ≤ i)
+    by i (inl b) = inl b
+    by i (inr b) = inr (omega arith)
 
 -- ---- `place`
 
@@ -305,10 +295,6 @@ among-one l w j (suc n) zero b h =
 among-one l w j (suc n) (suc k) b h =
     let q : j + 1 + k ≡ j + suc k = omega arith in
     rw (among-one l w (j + 1) n k (omega arith) (ap (λ v. same-situation l (slot w v)) q ∙ h)) (or-true (same-situation l (slot w j)))
-  where
-    or-true : (a : Bool) → a || true ≡ true
-    or-true true = refl
-    or-true false = refl
 
 -- the first slot of n from j on that holds l
 position-at : (w : List ℕ) (l : List (Thread Tags)) (n j i : ℕ) → i < n → ((k : ℕ) → k < i → same-situation l (slot w (j + k)) ≡ false) → same-situation l (slot w (j + i)) ≡ true → position same-situation l (slots w j n) ≡ i
@@ -357,7 +343,3 @@ none-more w l j h e k c = by (Bool-cases (eqb k j))
     by : (eqb k j ≡ true) ⊎ (eqb k j ≡ false) → same-situation l (slot w k) ≡ false
     by (inl z) = let q = eqb-true k j z in rw q e
     by (inr z) = let q = eqb-false k j z in h k (omega arith)
-
-pub slot-whole : (w : List ℕ) (j i : ℕ) → i ≡ getD w (578 * j) 0 → threads-at w (578 * j + 2) i ≡ slot w j
-unfolding slot
-slot-whole w j i e = ap (threads-at w (578 * j + 2)) e

@@ -1,54 +1,62 @@
--- What the registers of a list mean. Assumes nothing.
+-- What the registers of a list mean: two bytes for each, a tag and where its place comes from. Assumes nothing.
 use mathlib.Core.Path.{_≡_}
-use mathlib.Core.Bool.{true, false}
-use mathlib.Core.List.{List, [], map, foldl}
-use Prim.Native.Nat.{ℕ, _≤_, _<_}
-use lib.ListN.{length, take}
+use mathlib.Core.Logic.{_⊎_}
+use mathlib.Core.List.{List, [], _∷_, map, foldl}
+use Prim.Native.Nat.{ℕ, zero, suc, _+_, _*_, _≤_, _<_}
+use lib.ListN.{length, getD}
 use Rattle.paths.specs.Search.{Thread}
 use Rattle.net.specs.Rec.{Net}
-use Rattle.paths.specs.Registers.{begin, next, origins, situation, Tags, Key, index, note, renamed, registers, number}
-use Rattle.explore.specs.States.{threads-of, Fit}
-use Rattle.explore.specs.declared.Origin.{Origin}
-use Rattle.explore.specs.declared.Regs.{Regs}
-use Rattle.explore.specs.declared.Gathered.{Gathered}
-use Rattle.explore.specs.declared.Numbered.{Numbered}
+use Rattle.paths.specs.Registers.{begin, next, origins, situation, Tags, Key, index, note, renamed, rename, registers, number}
+use Rattle.explore.specs.Slots.{threads-at, slot, Fit}
 
-unfoldable pub key-of : Origin → Key
-key-of o = (o .tag, o .from)
+abbrev pub key-of : List ℕ → ℕ → Key
+key-of r k = (getD r (2 * k) 0, getD r (2 * k + 1) 0)
 
-unfoldable pub keys-of : Regs → List Key
-keys-of r = map key-of (take (r .n) (r .list))
+-- n registers from register k on
+unfoldable pub keys-at : List ℕ → ℕ → ℕ → List Key
+keys-at r k zero = []
+keys-at r k (suc n) = key-of r k ∷ keys-at r (k + 1) n
 
--- `l` after `ks`, each once; or more than 64 of them
-pub record Gathers (ks l : List Key) (a : Gathered) : Type 0 where
-  pub fine : a .over ≡ false → (keys-of (a .regs) ≡ foldl note ks l) × (a .regs .n ≤ 64)
-  pub over : a .over ≡ true → 64 < length (foldl note ks l)
+-- `l` after `ks`, each once, is the first a registers of r; or they are more than 64, and a is 65
+pub record Gathers (ks l : List Key) (r : List ℕ) (a : ℕ) : Type 0 where
+  pub size : length r ≡ 128
+  pub fine : a ≤ 64 → keys-at r 0 a ≡ foldl note ks l
+  pub over : 64 < a → 64 < length (foldl note ks l)
 
 -- register numbers for places
 abbrev pub names : List Key → Thread Tags → Thread Tags
 names ks s = record { on = s .on; had = renamed (λ t p. index (t, p) ks) 0 (s .had) }
 
-pub record Numbers (l : List (Thread Tags)) (a : Numbered) : Type 0 where
-  pub over : a .over ≡ true → 64 < length (registers l)
-  pub few : a .over ≡ false → a .regs .n ≤ 64
-  pub count : a .over ≡ false → a .regs .n ≡ length (registers l)
-  pub regs : a .over ≡ false → keys-of (a .regs) ≡ registers l
-  pub sit : a .over ≡ false → threads-of (a .sit) ≡ number l
+-- the first i threads of the list w have register numbers for places
+pub record Named (ks : List Key) (w w′ : List ℕ) (i : ℕ) : Type 0 where
+  pub size : length w′ ≡ length w
+  pub done : threads-at w′ 2 i ≡ rename (λ t p. index (t, p) ks) (threads-at w 2 i)
+  pub else : (k : ℕ) → (k < 2) ⊎ (2 + 9 * i ≤ k) → getD w′ k 0 ≡ getD w k 0
 
--- a is the situation s, with its registers; or more than 64 registers are needed
-pub record Is (N : ℕ) (s : List (Thread Tags)) (a : Numbered) : Type 0 where
-  pub over : a .over ≡ true → 64 < length (registers s)
-  pub few : a .over ≡ false → a .regs .n ≤ 64
-  pub count : a .over ≡ false → a .regs .n ≡ length (registers s)
-  pub sit : a .over ≡ false → threads-of (a .sit) ≡ s
-  pub fit : Fit N (a .sit)
+-- the list w is l with register numbers, and its a registers are r; or they are more than 64
+pub record Numbers (l : List (Thread Tags)) (w r : List ℕ) (a : ℕ) : Type 0 where
+  pub size : length r ≡ 128
+  pub over : 64 < a → 64 < length (registers l)
+  pub count : a ≤ 64 → a ≡ length (registers l)
+  pub tally : a ≤ 64 → getD w 1 0 ≡ a
+  pub regs : a ≤ 64 → keys-at r 0 a ≡ registers l
+  pub sit : a ≤ 64 → slot w 0 ≡ number l
+
+-- w is the situation s, with its count of registers; or more than 64 registers are needed
+pub record Is (N : ℕ) (s : List (Thread Tags)) (w : List ℕ) (a : ℕ) : Type 0 where
+  pub over : 64 < a → 64 < length (registers s)
+  pub count : a ≤ 64 → a ≡ length (registers s)
+  pub tally : a ≤ 64 → getD w 1 0 ≡ a
+  pub sit : a ≤ 64 → slot w 0 ≡ s
+  pub fit : Fit N w
 
 -- the next situation, and where each of its registers comes from
-pub record Stepped (A : Net) (N b : ℕ) (l : List (Thread Tags)) (a : Numbered) : Type 0 where
-  pub is : Is N (next A b l) a
-  pub from : a .over ≡ false → map (λ k. k .1) (keys-of (a .regs)) ≡ origins A b l
+pub record Stepped (A : Net) (N b : ℕ) (l : List (Thread Tags)) (w r : List ℕ) (a : ℕ) : Type 0 where
+  pub is : Is N (next A b l) w a
+  pub size : length r ≡ 128
+  pub from : a ≤ 64 → map (λ k. k .1) (keys-at r 0 a) ≡ origins A b l
 
 -- the first situation, and the places of its registers
-pub record Begun (A : Net) (N : ℕ) (a : Numbered) : Type 0 where
-  pub is : Is N (situation A []) a
-  pub from : a .over ≡ false → keys-of (a .regs) ≡ registers (begin A)
+pub record Begun (A : Net) (N : ℕ) (w r : List ℕ) (a : ℕ) : Type 0 where
+  pub is : Is N (situation A []) w a
+  pub from : a ≤ 64 → keys-at r 0 a ≡ registers (begin A)

@@ -10,7 +10,7 @@ use Rattle.paths.specs.Registers.{Tags}
 use Rattle.paths.specs.Equal.{same-situation}
 use Rattle.paths.specs.Numbering.{among}
 use Rattle.explore.specs.Lists.{position}
-use Rattle.explore.specs.States.{tags-of, thread-of}
+use Rattle.explore.specs.States.{tags-of, thread-of, Below}
 use Rattle.explore.specs.declared.Entry.{Entry}
 
 -- n bytes from k on
@@ -44,6 +44,17 @@ pub record Stored (w w′ : List ℕ) (j : ℕ) (l : List (Thread Tags)) (c : �
   pub here : slot w′ j ≡ l
   pub count : getD w′ (578 * j + 1) 0 ≡ c
   pub else : (k : ℕ) → (k < 578 * j) ⊎ (578 * j + 578 ≤ k) → getD w′ k 0 ≡ getD w k 0
+
+-- the situation of slot j, in a list of its own
+pub record Loaded (w : List ℕ) (j : ℕ) (l : List ℕ) : Type 0 where
+  pub size : length l ≡ 578
+  pub same : (k : ℕ) → k < 578 → getD l k 0 ≡ getD w (578 * j + k) 0
+
+-- a list that fits: at most 64, of records below N
+pub record Fit (N : ℕ) (w : List ℕ) : Type 0 where
+  pub size : length w ≡ 578
+  pub few : getD w 0 0 ≤ 64
+  pub below : Below N (slot w 0)
 
 pub record Placed (w : List ℕ) (count : ℕ) (l : List (Thread Tags)) (a : ℕ) : Type 0 where
   pub within : a ≤ count

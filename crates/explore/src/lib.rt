@@ -1,30 +1,26 @@
 ghost use mathlib.Core.Path.{_≡_};
-ghost use mathlib.Core.Bool.{Bool, true, false};
-ghost use mathlib.Core.List.{List, [], _∷_, _++_, foldl};
-ghost use Prim.Native.Nat.{suc};
+ghost use mathlib.Core.Bool.{false};
+ghost use mathlib.Core.List.{[], _∷_, foldl};
 ghost use Rattle.paths.specs.Situation.{bite, on-byte};
-ghost use Rattle.paths.specs.Registers.{step, Key, index, note, held-by, holds, registers, number};
-ghost use Prim.Native.Nat.{_*_};
+ghost use Rattle.paths.specs.Registers.{Tags, tagged, step, index, held-by, holds};
 ghost use Rattle.paths.specs.Equal.{same-thread, same-situation};
-ghost use Rattle.paths.specs.Numbering.{among};
-ghost use Rattle.explore.specs.Slots.{thread-at, slot, slots, Put-at, Stored, Placed};
-ghost use Rattle.explore.specs.Explore.{Kept, Tries, Expands, Explores, Alike, Told};
-ghost use Rattle.explore.specs.Keys.{keys-of, Gathers, names, Numbers, Stepped, Begun};
-ghost use Prim.Native.Nat.{ℕ, _+_, _<_, _≤_};
+ghost use Rattle.explore.specs.Slots.{thread-at, slot, Put-at, Stored, Loaded, Fit, Placed};
+ghost use Rattle.explore.specs.Explore.{Holds, Kept, Tries, Expands, Explores, Alike, Told};
+ghost use Rattle.explore.specs.Keys.{keys-at, Gathers, names, Named, Numbers, Stepped, Begun};
+ghost use Prim.Native.Nat.{ℕ, suc, _+_, _*_, _<_, _≤_};
 ghost use lib.ListN.{length, getD, set};
-ghost use Rattle.paths.specs.Registers.{Tags, tagged};
 ghost use Rattle.paths.specs.Marks.{Marked, marking};
 ghost use Rattle.net.specs.Items.{net-at};
 ghost use Rattle.explore.specs.Items.{Formed, lands};
 ghost use Rattle.net.specs.Rec.{rec};
 ghost use Rattle.explore.specs.Onward.{onward-of, closing-of};
-ghost use Rattle.explore.specs.States.{thread-of, threads-of, marked, Marked-by, Fit, Put, tags-of};
+ghost use Rattle.explore.specs.States.{thread-of, marked, Marked-by, tags-of};
 ghost use Rattle.explore.specs.Visit.{Ready, Means};
 use answers::REGISTERS;
 use answers::SITUATIONS;
 
-// From the records of an automaton file to its situations, in the lent work memory. What is under way between two bytes,
-// marks and a list, is changed in place; a list that is done goes by value.
+// From the records of an automaton file to its situations, in the lent work memory. A situation under way is a list of its
+// own in the shape of a slot: 578 bytes, changed in place, as the marks and the registers are.
 // What the public functions ask is shown by `build`: `Formed` comes from the reader of the file, `Kept` from the exploration.
 
 // One thread: the record that it stands on, and for each tag 255 or where its place comes from.
@@ -67,32 +63,6 @@ fn mark(marks: &mut [u8; 64], r: u8)
     marks[r as usize] = 1;
 }
 
-pub struct Found {
-    pub n: usize,
-    pub list: [Entry; 64],
-}
-
-impl Found {
-    fn new() -> Found
-        ensures { λ a. ⌜ a .n ≡ 0 ⌝ }
-    {
-        let none = [255u8; 8];
-        let e = Entry { on: 0, had: none };
-        let list = [e; 64];
-        Found { n: 0, list }
-    }
-
-    fn put(mut self, e: Entry) -> Found
-        requires { ⌜ self .n < 64 ⌝ }
-        ensures { λ a. ⌜ Put self e a ⌝ }
-    {
-        let n = self.n;
-        self.list[n] = e;
-        self.n = n + 1;
-        self
-    }
-}
-
 // What may follow a record with no byte: nothing, either of two records, or one with a tag.
 pub enum Onward {
     Stay,
@@ -126,6 +96,20 @@ fn put_entry(work: &mut [u8], at: usize, e: Entry)
         work[at + 1 + t] = e.had[t];
         t += 1;
     }
+}
+
+// The entry at a place. Its callers have the place from a list, with its nine bytes.
+pub fn entry_at(work: &[u8], at: usize) -> Entry
+    requires { ⌜ at + 9 ≤ length (now work) ⌝ }
+    ensures { λ a. ⌜ thread-of a ≡ thread-at (now (work .entry)) at ⌝ }
+{
+    let mut had = [255u8; 8];
+    let mut t = 0;
+    while t < 8 {
+        had[t] = work[at + 1 + t];
+        t += 1;
+    }
+    Entry { on: work[at], had }
 }
 
 // Depth first from e. The marks and the n entries of the list are changed in place; the list has the shape of a slot.
@@ -261,167 +245,109 @@ fn consume(
     visit(file, offs, stamp, e.moved(x), fuel, marks, list, n)
 }
 
-// All threads of s that consume b, in order, and what they lead to.
-fn sweep(file: &[u8], offs: &[usize], stamp: u8, s: Found, b: u8) -> Found
+// All threads of s that consume b, in order, and what they lead to, into the list.
+fn sweep(file: &[u8], offs: &[usize], stamp: u8, s: &[u8], b: u8, list: &mut [u8])
     requires { ⌜ Formed (now file) (now offs) ⌝ }
-    requires { ⌜ Fit (length (now offs)) s × (stamp < 255) ⌝ }
-    ensures { λ a. ⌜ Fit (length (now (offs .entry))) a × (threads-of a ≡ step (net-at (now (file .entry)) (now (offs .entry))) stamp b (threads-of s)) ⌝ }
+    requires { ⌜ Fit (length (now offs)) (now s) × ((stamp < 255) × (length (now list) ≡ 578)) ⌝ }
+    ensures { λ _. ⌜ Fit (length (now (offs .entry))) (now (list .exit)) × (slot (now (list .exit)) 0 ≡ step (net-at (now (file .entry)) (now (offs .entry))) stamp b (slot (now (s .entry)) 0)) ⌝ }
 {
-    let m = s.n;
+    let m = s[0] as usize;
     let mut marks = [0u8; 64];
-    let mut list = [0u8; 578];
     let mut n: usize = 0;
     let mut i: usize = 0;
     while i < m {
-        let e = s.list[i];
-        n = consume(file, offs, stamp, e, b, &mut marks, &mut list, n);
+        let e = entry_at(s, 2 + 9 * i);
+        n = consume(file, offs, stamp, e, b, &mut marks, list, n);
         i += 1;
     }
     list[0] = n as u8;
-    load(&list, 0)
 }
 
-// A register: a tag, and where its place comes from.
-pub struct Origin {
-    pub tag: u8,
-    pub from: u8,
-}
+// ---- registers: two bytes for each, a tag and where its place comes from; 64 fit
 
-// Registers, by first appearance.
-pub struct Regs {
-    pub n: usize,
-    pub list: [Origin; 64],
-}
-
-// Registers, or more than 64 of them.
-pub struct Gathered {
-    pub over: bool,
-    pub regs: Regs,
-}
-
-impl Regs {
-    fn new() -> Regs
-        ensures { λ a. ⌜ a .n ≡ 0 ⌝ }
-    {
-        let o = Origin { tag: 0, from: 0 };
-        let list = [o; 64];
-        Regs { n: 0, list }
-    }
-
-    // The number of tag t's register from o, or the count.
-    fn find(self, t: u8, o: u8) -> usize
-        requires { ⌜ self .n ≤ 64 ⌝ }
-        ensures { λ a. ⌜ a ≡ index (t, o) (keys-of self) ⌝ }
-    {
-        let n = self.n;
-        let mut i = 0;
-        while i < n {
-            let k = self.list[i];
-            if k.tag == t {
-                if k.from == o {
-                    return i;
-                }
+// The number of tag t's register from o among the first n, or n.
+fn find(regs: &[u8], n: usize, t: u8, o: u8) -> usize
+    requires { ⌜ 2 * n ≤ length (now regs) ⌝ }
+    ensures { λ a. ⌜ a ≡ index (t, o) (keys-at (now (regs .entry)) 0 n) ⌝ }
+{
+    let mut i: usize = 0;
+    while i < n {
+        if regs[2 * i] == t {
+            if regs[2 * i + 1] == o {
+                return i;
             }
-            i += 1;
         }
-        n
+        i += 1;
     }
+    n
+}
 
-    fn with(mut self, t: u8, o: u8) -> Regs
-        requires { ⌜ self .n < 64 ⌝ }
-        ensures { λ a. ⌜ (keys-of a ≡ keys-of self ++ ((t, o) ∷ [])) × (a .n ≡ self .n + 1) ⌝ }
-    {
-        let n = self.n;
-        self.list[n] = Origin { tag: t, from: o };
-        self.n = n + 1;
-        self
+// The count with tag t's register from o, or 65.
+fn add(regs: &mut [u8], n: usize, t: u8, o: u8) -> usize
+    requires { ⌜ (n ≤ 64) × (length (now regs) ≡ 128) ⌝ }
+    ensures { λ a. ⌜ Gathers (keys-at (now (regs .entry)) 0 n) ((t, o) ∷ []) (now (regs .exit)) a ⌝ }
+{
+    let i = find(regs, n, t, o);
+    if i < n {
+        return n;
     }
-
-    fn add(self, t: u8, o: u8) -> Gathered
-        requires { ⌜ self .n ≤ 64 ⌝ }
-        ensures { λ a. ⌜ Gathers (keys-of self) ((t, o) ∷ []) a ⌝ }
-    {
-        let n = self.n;
-        let i = self.find(t, o);
-        if i < n {
-            return Gathered {
-                over: false,
-                regs: self,
-            };
-        }
-        if 64 <= n {
-            return Gathered {
-                over: true,
-                regs: self,
-            };
-        }
-        Gathered {
-            over: false,
-            regs: self.with(t, o),
-        }
+    if 64 <= n {
+        return 65;
     }
+    regs[2 * n] = t;
+    regs[2 * n + 1] = o;
+    n + 1
 }
 
 // The registers of one entry, after those before it.
-fn gather(regs: Regs, e: Entry) -> Gathered
-    requires { ⌜ regs .n ≤ 64 ⌝ }
-    ensures { λ a. ⌜ Gathers (keys-of regs) (holds 0 (tags-of (e .had))) a ⌝ }
+fn gather(regs: &mut [u8], n: usize, e: Entry) -> usize
+    requires { ⌜ (n ≤ 64) × (length (now regs) ≡ 128) ⌝ }
+    ensures { λ a. ⌜ Gathers (keys-at (now (regs .entry)) 0 n) (holds 0 (tags-of (e .had))) (now (regs .exit)) a ⌝ }
 {
-    let mut k = regs;
-    let mut t = 0;
+    let mut k = n;
+    let mut t: usize = 0;
     while t < 8 {
         let o = e.had[t];
         if o != 255 {
-            let g = k.add(t as u8, o);
-            if g.over {
-                return g;
+            k = add(regs, k, t as u8, o);
+            if 64 < k {
+                return k;
             }
-            let r = g.regs;
-            k = r;
         }
         t += 1;
     }
-    Gathered {
-        over: false,
-        regs: k,
-    }
+    k
 }
 
 // The registers of a list.
-fn registers_of(s: Found) -> Gathered
-    requires { ⌜ s .n ≤ 64 ⌝ }
-    ensures { λ a. ⌜ Gathers [] (held-by (threads-of s)) a ⌝ }
+fn registers_of(list: &[u8], regs: &mut [u8]) -> usize
+    requires { ⌜ (length (now list) ≡ 578) × ((getD (now list) 0 0 ≤ 64) × (length (now regs) ≡ 128)) ⌝ }
+    ensures { λ a. ⌜ Gathers [] (held-by (slot (now (list .entry)) 0)) (now (regs .exit)) a ⌝ }
 {
-    let n = s.n;
-    let mut k = Regs::new();
-    let mut i = 0;
+    let n = list[0] as usize;
+    let mut k: usize = 0;
+    let mut i: usize = 0;
     while i < n {
-        let e = s.list[i];
-        let g = gather(k, e);
-        if g.over {
-            return g;
+        k = gather(regs, k, entry_at(list, 2 + 9 * i));
+        if 64 < k {
+            return k;
         }
-        let r = g.regs;
-        k = r;
         i += 1;
     }
-    Gathered {
-        over: false,
-        regs: k,
-    }
+    k
 }
 
 // An entry with register numbers for origins.
-fn name_entry(regs: Regs, e: Entry) -> Entry
-    requires { ⌜ regs .n ≤ 64 ⌝ }
-    ensures { λ a. ⌜ thread-of a ≡ names (keys-of regs) (thread-of e) ⌝ }
+fn name_entry(regs: &[u8], n: usize, e: Entry) -> Entry
+    requires { ⌜ (n ≤ 64) × (length (now regs) ≡ 128) ⌝ }
+    ensures { λ a. ⌜ thread-of a ≡ names (keys-at (now (regs .entry)) 0 n) (thread-of e) ⌝ }
 {
     let mut d = e;
-    let mut t = 0;
+    let mut t: usize = 0;
     while t < 8 {
         let o = e.had[t];
         if o != 255 {
-            let i = regs.find(t as u8, o);
+            let i = find(regs, n, t as u8, o);
             d.had[t] = i as u8;
         }
         t += 1;
@@ -429,119 +355,96 @@ fn name_entry(regs: Regs, e: Entry) -> Entry
     d
 }
 
-fn name_all(regs: Regs, s: Found) -> Found
-    requires { ⌜ (regs .n ≤ 64) × (s .n ≤ 64) ⌝ }
-    ensures { λ a. ⌜ (a .n ≡ s .n) × (threads-of a ≡ Rattle.paths.specs.Registers.rename (λ t p. index (t, p) (keys-of regs)) (threads-of s)) ⌝ }
+fn name_all(regs: &[u8], k: usize, list: &mut [u8])
+    requires { ⌜ (k ≤ 64) × (length (now regs) ≡ 128) ⌝ }
+    requires { ⌜ (length (now list) ≡ 578) × (getD (now list) 0 0 ≤ 64) ⌝ }
+    ensures { λ _. ⌜ Named (keys-at (now (regs .entry)) 0 k) (now (list .entry)) (now (list .exit)) (getD (now (list .entry)) 0 0) ⌝ }
 {
-    let n = s.n;
-    let mut f = Found::new();
-    let mut i = 0;
+    let n = list[0] as usize;
+    let mut i: usize = 0;
     while i < n {
-        let e = s.list[i];
-        f = f.put(name_entry(regs, e));
+        let e = entry_at(list, 2 + 9 * i);
+        put_entry(list, 2 + 9 * i, name_entry(regs, k, e));
         i += 1;
     }
-    f
 }
 
-pub struct Numbered {
-    pub over: bool,
-    pub regs: Regs,
-    pub sit: Found,
-}
-
-// The list with register numbers, and where each register comes from.
-fn number_of(s: Found) -> Numbered
-    requires { ⌜ s .n ≤ 64 ⌝ }
-    ensures numbers { λ a. ⌜ Numbers (threads-of s) a ⌝ }
-    ensures fit { λ a. ⌜ ((N : ℕ) → Fit N s → Fit N (a .sit)) ⌝ }
+// The list with register numbers, and where each register comes from. The count of registers, or 65.
+fn number_of(list: &mut [u8], regs: &mut [u8]) -> usize
+    requires { ⌜ (length (now list) ≡ 578) × ((getD (now list) 0 0 ≤ 64) × (length (now regs) ≡ 128)) ⌝ }
+    ensures numbers { λ a. ⌜ Numbers (slot (now (list .entry)) 0) (now (list .exit)) (now (regs .exit)) a ⌝ }
+    ensures fit { λ _. ⌜ ((N : ℕ) → Fit N (now (list .entry)) → Fit N (now (list .exit))) ⌝ }
 {
-    let g = registers_of(s);
-    let r = g.regs;
-    if g.over {
-        return Numbered {
-            over: true,
-            regs: r,
-            sit: s,
-        };
+    let k = registers_of(list, regs);
+    if 64 < k {
+        return k;
     }
-    Numbered {
-        over: false,
-        regs: r,
-        sit: name_all(r, s),
-    }
+    name_all(regs, k, list);
+    list[1] = k as u8;
+    k
 }
 
-// The situation after one byte more, and where its registers come from. `count` is how many registers s has.
-// `build` shows what it asks: the file by its reader, and s with its count by `Kept`, as s is a stored situation.
-pub fn next_of(file: &[u8], offs: &[usize], count: u8, s: Found, b: u8) -> Numbered
+// The situation that s leads to by byte b, into the list, and where its registers come from. Their count, or 65.
+// `build` shows what it asks: the file by its reader, and s by `Kept`, as s is a stored situation.
+pub fn next_of(
+    file: &[u8],
+    offs: &[usize],
+    s: &[u8],
+    b: u8,
+    list: &mut [u8],
+    regs: &mut [u8],
+) -> usize
     requires { ⌜ Formed (now file) (now offs) ⌝ }
-    requires { ⌜ Fit (length (now offs)) s × ((count ≡ length (registers (threads-of s))) × (count < 255)) ⌝ }
-    ensures { λ a. ⌜ Stepped (net-at (now (file .entry)) (now (offs .entry))) (length (now (offs .entry))) b (threads-of s) a ⌝ }
+    requires { ⌜ Holds (length (now offs)) (now s) 0 × (length (now s) ≡ 578) ⌝ }
+    requires { ⌜ (length (now list) ≡ 578) × (length (now regs) ≡ 128) ⌝ }
+    ensures { λ a. ⌜ Stepped (net-at (now (file .entry)) (now (offs .entry))) (length (now (offs .entry))) b (slot (now (s .entry)) 0) (now (list .exit)) (now (regs .exit)) a ⌝ }
 {
-    number_of(sweep(file, offs, count, s, b))
+    sweep(file, offs, s[1], s, b, list);
+    number_of(list, regs)
 }
 
 // The situation of the empty input.
-fn begin_of(file: &[u8], offs: &[usize]) -> Numbered
+fn begin_of(file: &[u8], offs: &[usize], list: &mut [u8], regs: &mut [u8]) -> usize
     requires { ⌜ Formed (now file) (now offs) ⌝ }
     requires { ⌜ 0 < length (now offs) ⌝ }
-    ensures { λ a. ⌜ Begun (net-at (now (file .entry)) (now (offs .entry))) (length (now (offs .entry))) a ⌝ }
+    requires { ⌜ (length (now list) ≡ 578) × (length (now regs) ≡ 128) ⌝ }
+    ensures { λ a. ⌜ Begun (net-at (now (file .entry)) (now (offs .entry))) (length (now (offs .entry))) (now (list .exit)) (now (regs .exit)) a ⌝ }
 {
     let had = [255u8; 8];
     let e = Entry { on: 0, had };
     let mut marks = [0u8; 64];
-    let mut list = [0u8; 578];
-    let n = visit(file, offs, 0, e, offs.len() + 1, &mut marks, &mut list, 0);
+    let n = visit(file, offs, 0, e, offs.len() + 1, &mut marks, list, 0);
     list[0] = n as u8;
-    number_of(load(&list, 0))
+    number_of(list, regs)
 }
 
 // ---- the work memory: slot j has the count of records, the count of registers, and nine bytes for each record
 
-fn store(work: &mut [u8], j: usize, s: Found, count: u8)
-    requires { ⌜ (s .n ≤ 64) × (578 * j + 578 ≤ length (now work)) ⌝ }
-    ensures { λ _. ⌜ Stored (now (work .entry)) (now (work .exit)) j (threads-of s) count ⌝ }
+fn store(work: &mut [u8], j: usize, list: &[u8])
+    requires { ⌜ (length (now list) ≡ 578) × ((getD (now list) 0 0 ≤ 64) × (578 * j + 578 ≤ length (now work))) ⌝ }
+    ensures { λ _. ⌜ Stored (now (work .entry)) (now (work .exit)) j (slot (now (list .entry)) 0) (getD (now (list .entry)) 1 0) ⌝ }
 {
     let base = 578 * j;
-    let n = s.n;
-    work[base] = n as u8;
-    work[base + 1] = count;
-    let mut i = 0;
-    while i < n {
-        let e = s.list[i];
-        put_entry(work, base + 2 + 9 * i, e);
-        i += 1;
+    let mut k: usize = 0;
+    while k < 578 {
+        work[base + k] = list[k];
+        k += 1;
     }
 }
 
-fn entry_at(work: &[u8], at: usize) -> Entry
-    requires { ⌜ at + 9 ≤ length (now work) ⌝ }
-    ensures { λ a. ⌜ thread-of a ≡ thread-at (now (work .entry)) at ⌝ }
-{
-    let mut had = [255u8; 8];
-    let mut t = 0;
-    while t < 8 {
-        had[t] = work[at + 1 + t];
-        t += 1;
-    }
-    Entry { on: work[at], had }
-}
-
-// Situation j. Its callers show by `Kept` that the exploration has stored it; a list of `visit` has its count put there.
-pub fn load(work: &[u8], j: usize) -> Found
-    requires { ⌜ (578 * j + 578 ≤ length (now work)) × (getD (now work) (578 * j) 0 ≤ 64) ⌝ }
-    ensures { λ a. ⌜ (a .n ≤ 64) × (threads-of a ≡ slot (now (work .entry)) j) ⌝ }
+// Situation j in a list of its own. Its callers show by `Kept` that the memory has the slot.
+pub fn load(work: &[u8], j: usize) -> [u8; 578]
+    requires { ⌜ 578 * j + 578 ≤ length (now work) ⌝ }
+    ensures { λ a. ⌜ Loaded (now (work .entry)) j a ⌝ }
 {
     let base = 578 * j;
-    let n = work[base] as usize;
-    let mut f = Found::new();
-    let mut i = 0;
-    while i < n {
-        f = f.put(entry_at(work, base + 2 + 9 * i));
-        i += 1;
+    let mut list = [0u8; 578];
+    let mut k: usize = 0;
+    while k < 578 {
+        list[k] = work[base + k];
+        k += 1;
     }
-    f
+    list
 }
 
 fn same_entry(work: &[u8], at: usize, e: Entry) -> bool
@@ -561,19 +464,19 @@ fn same_entry(work: &[u8], at: usize, e: Entry) -> bool
     true
 }
 
-fn same(work: &[u8], j: usize, s: Found) -> bool
-    requires { ⌜ (578 * j + 578 ≤ length (now work)) × (s .n ≤ 64) ⌝ }
-    ensures { λ a. ⌜ a ≡ same-situation (threads-of s) (slot (now (work .entry)) j) ⌝ }
+fn same(work: &[u8], j: usize, list: &[u8]) -> bool
+    requires { ⌜ (578 * j + 578 ≤ length (now work)) × ((length (now list) ≡ 578) × (getD (now list) 0 0 ≤ 64)) ⌝ }
+    ensures { λ a. ⌜ a ≡ same-situation (slot (now (list .entry)) 0) (slot (now (work .entry)) j) ⌝ }
 {
     let base = 578 * j;
-    let n = s.n;
-    let m = work[base] as usize;
-    if m != n {
+    let n = list[0];
+    if work[base] != n {
         return false;
     }
-    let mut i = 0;
-    while i < n {
-        let e = s.list[i];
+    let m = n as usize;
+    let mut i: usize = 0;
+    while i < m {
+        let e = entry_at(list, 2 + 9 * i);
         if !same_entry(work, base + 2 + 9 * i, e) {
             return false;
         }
@@ -582,14 +485,15 @@ fn same(work: &[u8], j: usize, s: Found) -> bool
     true
 }
 
-// Where s is stored, or the count. `build` shows by `Kept` that the memory has the slots, and has s from `next_of`.
-pub fn place(work: &[u8], count: usize, s: Found) -> usize
-    requires { ⌜ (578 * count ≤ length (now work)) × (s .n ≤ 64) ⌝ }
-    ensures { λ a. ⌜ Placed (now (work .entry)) count (threads-of s) a ⌝ }
+// Where the list's situation is stored, or the count. `build` shows by `Kept` that the memory has the slots, and has the
+// list from `next_of`.
+pub fn place(work: &[u8], count: usize, list: &[u8]) -> usize
+    requires { ⌜ (578 * count ≤ length (now work)) × ((length (now list) ≡ 578) × (getD (now list) 0 0 ≤ 64)) ⌝ }
+    ensures { λ a. ⌜ Placed (now (work .entry)) count (slot (now (list .entry)) 0) a ⌝ }
 {
-    let mut j = 0;
+    let mut j: usize = 0;
     while j < count {
-        if same(work, j, s) {
+        if same(work, j, list) {
             return j;
         }
         j += 1;
@@ -606,29 +510,22 @@ pub struct Tried {
 }
 
 // What byte b leads to from s, stored if it is new.
-fn try_byte(
-    file: &[u8],
-    offs: &[usize],
-    work: &mut [u8],
-    s: Found,
-    regs: u8,
-    count: usize,
-    b: u8,
-) -> Tried
+fn try_byte(file: &[u8], offs: &[usize], work: &mut [u8], s: &[u8], count: usize, b: u8) -> Tried
     requires { ⌜ Formed (now file) (now offs) ⌝ }
     requires { ⌜ Kept (length (now offs)) (now work) count ⌝ }
-    requires { ⌜ Fit (length (now offs)) s × ((regs ≡ length (registers (threads-of s))) × (regs ≤ 64)) ⌝ }
-    ensures { λ a. ⌜ Tries (net-at (now (file .entry)) (now (offs .entry))) (length (now (offs .entry))) (now (work .entry)) (now (work .exit)) count (threads-of s) b a ⌝ }
+    requires { ⌜ Holds (length (now offs)) (now s) 0 × (length (now s) ≡ 578) ⌝ }
+    ensures { λ a. ⌜ Tries (net-at (now (file .entry)) (now (offs .entry))) (length (now (offs .entry))) (now (work .entry)) (now (work .exit)) count (slot (now (s .entry)) 0) b a ⌝ }
 {
-    let t = next_of(file, offs, regs, s, b);
-    if t.over {
+    let mut list = [0u8; 578];
+    let mut regs = [0u8; 128];
+    let k = next_of(file, offs, s, b, &mut list, &mut regs);
+    if 64 < k {
         return Tried {
             answer: REGISTERS,
             count,
         };
     }
-    let q = t.sit;
-    let j = place(work, count, q);
+    let j = place(work, count, &list);
     if j < count {
         return Tried { answer: 0, count };
     }
@@ -638,9 +535,7 @@ fn try_byte(
             count,
         };
     }
-    let r = t.regs;
-    let k = r.n;
-    store(work, count, q, k as u8);
+    store(work, count, &list);
     Tried {
         answer: 0,
         count: count + 1,
@@ -696,12 +591,11 @@ fn expand(
     ensures { λ a. ⌜ Expands (net-at (now (file .entry)) (now (offs .entry))) (length (now (offs .entry))) (now (work .entry)) (now (work .exit)) count (slot (now (work .entry)) i) a ⌝ }
 {
     let s = load(work, i);
-    let regs = work[578 * i + 1];
     let mut n = count;
     let mut b: usize = 0;
     while b < 256 {
         if news[b] != 0 {
-            let t = try_byte(file, offs, work, s, regs, n, b as u8);
+            let t = try_byte(file, offs, work, &s, n, b as u8);
             if t.answer != 0 {
                 return t;
             }
@@ -722,17 +616,16 @@ pub fn explore(file: &[u8], offs: &[usize], news: &[u8], work: &mut [u8]) -> Tri
     requires { ⌜ 65536 ≤ length (now work) ⌝ }
     ensures { λ a. ⌜ Explores (net-at (now (file .entry)) (now (offs .entry))) (length (now (offs .entry))) (now (work .entry)) (now (work .exit)) a ⌝ }
 {
-    let t = begin_of(file, offs);
-    if t.over {
+    let mut list = [0u8; 578];
+    let mut regs = [0u8; 128];
+    let k = begin_of(file, offs, &mut list, &mut regs);
+    if 64 < k {
         return Tried {
             answer: REGISTERS,
             count: 0,
         };
     }
-    let q = t.sit;
-    let r = t.regs;
-    let k = r.n;
-    store(work, 0, q, k as u8);
+    store(work, 0, &list);
     let mut count: usize = 1;
     let mut i: usize = 0;
     while i < count {

@@ -7,6 +7,7 @@ pub mod Steps
 pub mod Sane
 pub mod Emit
 pub mod EmitSteps
+pub mod EmitLoops
 pub mod EmitSets
 pub mod Top
 pub mod Legal

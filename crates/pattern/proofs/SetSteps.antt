@@ -102,7 +102,7 @@ gains-none s i c Shut o = refl
 gains-none s i c Bad o = refl
 
 -- the rest of a set
-pub scan-end : (s : List ℕ) (i : ℕ) (st : Step) (xs : List Item) → length s ≤ i → sets.scan (drop i s) i st xs ≡ sets.wrong i
+scan-end : (s : List ℕ) (i : ℕ) (st : Step) (xs : List Item) → length s ≤ i → sets.scan (drop i s) i st xs ≡ sets.wrong i
 unfolding sets.scan
 scan-end s i st xs h = ap (λ w. sets.scan w i st xs) (drop-of-length-le s h)
 
@@ -114,11 +114,11 @@ module _ (s : List ℕ) (i : ℕ) (st : Step) (xs : List Item) (h : i < length s
       ∙ ap (λ y. onward y (sets.scan (drop (suc i) s)) i (xs ++ gained st (getD s i 0))) (sym (e .is))
       ∙ ap (λ k. onward (stands s (i + 1) r) (sets.scan (drop k s)) i (xs ++ gained st (getD s i 0))) (sym (add-one i))
 
-  pub scan-bad : r ≡ Bad → sets.scan (drop i s) i st xs ≡ sets.wrong i
+  scan-bad : r ≡ Bad → sets.scan (drop i s) i st xs ≡ sets.wrong i
   unfolding stands
   scan-bad z = here ∙ ap (λ y. onward (stands s (i + 1) y) (sets.scan (drop (i + 1) s)) i (xs ++ gained st (getD s i 0))) z
 
-  pub scan-shut : r ≡ Shut → sets.scan (drop i s) i st xs ≡ sets.listing (i + 1) (xs ++ gained st (getD s i 0))
+  scan-shut : r ≡ Shut → sets.scan (drop i s) i st xs ≡ sets.listing (i + 1) (xs ++ gained st (getD s i 0))
   unfolding stands
   scan-shut z = here ∙ ap (λ y. onward (stands s (i + 1) y) (sets.scan (drop (i + 1) s)) i (xs ++ gained st (getD s i 0))) z
 
@@ -134,8 +134,40 @@ module _ (s : List ℕ) (i : ℕ) (st : Step) (xs : List Item) (h : i < length s
   goes Shut f ys o = absurd (miss (0 ∷ 1 ∷ 2 ∷ 3 ∷ 4 ∷ 5 ∷ 6 ∷ []) 7 tt o)
   goes Bad f ys o = absurd (miss (0 ∷ 1 ∷ 2 ∷ 3 ∷ 4 ∷ 5 ∷ 6 ∷ []) 8 tt o)
 
-  pub scan-on : OneOf (0 ∷ 1 ∷ 2 ∷ 3 ∷ 4 ∷ 5 ∷ 6 ∷ []) (tagOf the-type r) → sets.scan (drop i s) i st xs ≡ sets.scan (drop (i + 1) s) (i + 1) (stands s (i + 1) r) (xs ++ gained st (getD s i 0))
+  scan-on : OneOf (0 ∷ 1 ∷ 2 ∷ 3 ∷ 4 ∷ 5 ∷ 6 ∷ []) (tagOf the-type r) → sets.scan (drop i s) i st xs ≡ sets.scan (drop (i + 1) s) (i + 1) (stands s (i + 1) r) (xs ++ gained st (getD s i 0))
   scan-on o = here ∙ goes r (sets.scan (drop (i + 1) s)) (xs ++ gained st (getD s i 0)) o
+
+-- a reading from i on has come to j: after any items xs the answer is the answer from j, after these items and those gained.
+-- What holds of xs by O holds of them all by P.
+pub record Come (O P : List Item → Type 0) (s : List ℕ) (i : ℕ) (st : Stand) (j : ℕ) (cur : Stand) : Type 0 where
+  pub within : j ≤ length s
+  pub sound : Sound j cur
+  pub items : List Item → List Item
+  pub same : (xs : List Item) → sets.scan (drop i s) i (stands s i st) xs ≡ sets.scan (drop j s) j (stands s j cur) (items xs)
+  pub kept : (xs : List Item) → O xs → P (items xs)
+
+pub come-none : (O : List Item → Type 0) (s : List ℕ) (i : ℕ) (st : Stand) → i ≤ length s → Sound i st → Come O O s i st i st
+come-none O s i st h k = record { within = h; sound = k; items = λ xs. xs; same = λ xs. refl; kept = λ xs o. o }
+
+module _ {O P : List Item → Type 0} {s : List ℕ} {i : ℕ} {st : Stand} {j : ℕ} {cur : Stand} (a : Come O P s i st j cur) where
+  pub come-end : length s ≤ j → (xs : List Item) → sets.scan (drop i s) i (stands s i st) xs ≡ sets.wrong j
+  come-end h xs = a .same xs ∙ scan-end s j (stands s j cur) (a .items xs) h
+
+  module _ (h : j < length s) (r : Stand) (e : Stepped s j (setOn (stands s j cur) (getD s j 0)) r) where
+    pub come-bad : r ≡ Bad → (xs : List Item) → sets.scan (drop i s) i (stands s i st) xs ≡ sets.wrong j
+    come-bad z xs = a .same xs ∙ scan-bad s j (stands s j cur) (a .items xs) h r e z
+
+    pub come-shut : r ≡ Shut → (xs : List Item) → sets.scan (drop i s) i (stands s i st) xs ≡ sets.listing (j + 1) (a .items xs ++ gained (stands s j cur) (getD s j 0))
+    come-shut z xs = a .same xs ∙ scan-shut s j (stands s j cur) (a .items xs) h r e z
+
+    pub come-on : (Q : List Item → Type 0) → OneOf (0 ∷ 1 ∷ 2 ∷ 3 ∷ 4 ∷ 5 ∷ 6 ∷ []) (tagOf the-type r) → ((ys : List Item) → P ys → Q (ys ++ gained (stands s j cur) (getD s j 0))) → Come O Q s i st (j + 1) r
+    come-on Q o f = record {
+      within = omega arith;
+      sound = e .sound;
+      items = λ xs. a .items xs ++ gained (stands s j cur) (getD s j 0);
+      same = λ xs. a .same xs ∙ scan-on s j (stands s j cur) (a .items xs) h r e o;
+      kept = λ xs k. f (a .items xs) (a .kept xs k);
+    }
 
 -- a set, with `^` and without
 pub box-caret : (s : List ℕ) (i : ℕ) → look s (i + 1) ≡ 94 → boxed s i ≡ sets.scan (drop (i + 2) s) (i + 2) sets.fresh []

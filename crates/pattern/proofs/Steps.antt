@@ -23,6 +23,7 @@ use Rattle.pattern.specs.declared.reading.Read.{Read}
 use Rattle.pattern.specs.declared.reading.Read.the-variants.{Ok, Form, Deep}
 use Rattle.pattern.proofs.reading.Read.{the-type}
 use Rattle.pattern.proofs.Laws.{Good, Went, adv, went, read-good, read-step, in-text, byte-in, alts-step, alts-one, alts-more, seq-none, seq-some, piece-step, piece-ok, atom-lone, atom-deep, atom-group, atom-closed}
+use Rattle.pattern.proofs.Sums.{alike}
 use Rattle.ground.proofs.Tests.{true-false}
 
 abbrev pub Refused : Read → Type 0
@@ -81,6 +82,70 @@ pub told : (r : Res) (e : ℕ) (m : Sum) (p : Pat) → r ≡ ok e p → sumOf p 
 unfolding measured
 told r e m p h a = sym (ap measured h ∙ ap (Ok e) a)
 
+-- measures that come before those of an answer
+abbrev pub added : Sum → Read → Read
+added k (Ok e m) = Ok e (seqSum k m)
+added k (Form q) = Form q
+added k (Deep q) = Deep q
+
+nothing-added : (r : Read) → r ≡ added (sumOf Empty) r
+nothing-added (Ok e m) = ap (Ok e) (alike (omega arith) (omega arith) (omega arith))
+nothing-added (Form q) = refl
+nothing-added (Deep q) = refl
+
+added-twice : (k m : Sum) (r : Read) → added k (added m r) ≡ added (seqSum k m) r
+added-twice k m (Ok e x) = ap (Ok e) (alike (omega arith) (omega arith) (omega arith))
+added-twice k m (Form q) = refl
+added-twice k m (Deep q) = refl
+
+pub none-after : (k : Sum) → k ≡ seqSum k (sumOf Empty)
+none-after k = alike (omega arith) (omega arith) (omega arith)
+
+pub forked-sum : (k m : Sum) → altSum k m ≡ seqSum k (repSum m)
+forked-sum k m = alike (omega arith) (omega arith) (omega arith)
+
+refused-added : (k : Sum) (r : Read) → Refused r → r ≡ added k r
+refused-added k (Ok e m) x = absurd x
+refused-added k (Form q) x = refl
+refused-added k (Deep q) x = refl
+
+then-seq : (p : Pat) (m : Sum) (r : Res) → sumOf p ≡ m → measured (andThen r (λ e q. ok e (Seq p q))) ≡ added m (measured r)
+unfolding measured
+then-seq p m (ok e q) h = ap (λ k. Ok e (seqSum k (sumOf q))) h
+then-seq p m (form q) h = refl
+then-seq p m (deep q) h = refl
+
+then-alt : (p : Pat) (m : Sum) (r : Res) → sumOf p ≡ m → measured (andThen r (λ e q. ok e (Alt p q))) ≡ added (repSum m) (measured r)
+unfolding measured
+then-alt p m (ok e q) h = ap (λ k. Ok e (altSum k (sumOf q))) h ∙ ap (Ok e) (alike (omega arith) (omega arith) (omega arith))
+then-alt p m (form q) h = refl
+then-alt p m (deep q) h = refl
+
+-- a loop that reads a level from i on has come to j with the measures k: the answer is the answer from j, with k before its own
+pub record Passed (s : List ℕ) (l : Lvl) (d i : ℕ) (k : Sum) (j : ℕ) : Type 0 where
+  pub within : j ≤ length s
+  pub small : i + k .size ≤ j
+  pub narrow : k .width ≤ 34 * k .size
+  pub same : measured (read s l d i) ≡ added k (measured (read s l d j))
+
+pub pass-none : (s : List ℕ) (l : Lvl) (d i : ℕ) (k : Sum) → i ≤ length s → k ≡ sumOf Empty → Passed s l d i k i
+pass-none s l d i k h e = subst (λ (z : Sum). Passed s l d i z i) (sym e) (record { within = h; small = omega arith; narrow = omega arith; same = nothing-added (measured (read s l d i)) })
+
+module _ {s : List ℕ} {l : Lvl} {d i : ℕ} {k : Sum} {j : ℕ} (a : Passed s l d i k j) where
+  pub pass-refused : (r : Read) → Refused r → r ≡ measured (read s l d j) → r ≡ measured (read s l d i)
+  pass-refused r x q = refused-added k r x ∙ ap (added k) q ∙ sym (a .same)
+
+  pub pass-done : (e : ℕ) (m k′ : Sum) → Ok e m ≡ measured (read s l d j) → k′ ≡ seqSum k m → Ok e k′ ≡ measured (read s l d i)
+  pass-done e m k′ q z = ap (Ok e) z ∙ ap (added k) q ∙ sym (a .same)
+
+  pub pass-on : (e : ℕ) (m k′ : Sum) → measured (read s l d j) ≡ added m (measured (read s l d e)) → e ≤ length s → j + m .size ≤ e → m .width ≤ 34 * m .size → k′ ≡ seqSum k m → Passed s l d i k′ e
+  pass-on e m k′ q h b w z = subst (λ (x : Sum). Passed s l d i x e) (sym z) (record {
+    within = h;
+    small = let g = a .small in omega arith;
+    narrow = let g = a .narrow in omega arith;
+    same = a .same ∙ ap (added k) q ∙ added-twice k m (measured (read s l d e));
+  })
+
 module _ (s : List ℕ) (d i : ℕ) (h : i ≤ length s) where
   -- how far a reading went
   pub far : (l : Lvl) (e : ℕ) (m : Sum) → Ok e m ≡ measured (read s l d i) → (i + adv l ≤ e) × (e ≤ length s) × (i + m .size ≤ e) × (m .width ≤ 34 * m .size)
@@ -101,14 +166,8 @@ module _ (s : List ℕ) (d i : ℕ) (h : i ≤ length s) where
       more : read s alts d i ≡ andThen (read s alts d (e + 1)) (λ e′ p. ok e′ (Alt (inv (read s seq d i) q .pat) p))
       more = let v = inv (read s seq d i) q in alts-more s d i h e (v .pat) (v .is) is-bar
 
-      pub alts-tail-refused : (a : Read) → Refused a → a ≡ measured (read s alts d (e + 1)) → a ≡ measured (read s alts d i)
-      alts-tail-refused a x r = refused-then a (read s alts d (e + 1)) _ x r ∙ sym (ap measured more)
-
-      pub alts-both : (e′ : ℕ) (m′ k : Sum) → Ok e′ m′ ≡ measured (read s alts d (e + 1)) → k ≡ altSum m m′ → Ok e′ k ≡ measured (read s alts d i)
-      alts-both e′ m′ k r z =
-          let v = inv (read s seq d i) q in
-          let w = inv (read s alts d (e + 1)) r in
-          told _ e′ k (Alt (v .pat) (w .pat)) (more ∙ ap (λ r. andThen r (λ e′ p. ok e′ (Alt (v .pat) p))) (w .is)) (ap (λ x. altSum x (sumOf (w .pat))) (v .summed) ∙ ap (altSum m) (w .summed) ∙ sym z)
+      pub alts-before : measured (read s alts d i) ≡ added (repSum m) (measured (read s alts d (e + 1)))
+      alts-before = ap measured more ∙ then-alt (inv (read s seq d i) q .pat) m (read s alts d (e + 1)) (inv (read s seq d i) q .summed)
 
   -- sequences
   pub seq-empty : stops (look s i) ≡ true → Ok i (sumOf Empty) ≡ measured (read s seq d i)
@@ -122,14 +181,8 @@ module _ (s : List ℕ) (d i : ℕ) (h : i ≤ length s) where
       on : read s seq d i ≡ andThen (read s seq d e) (λ e′ p. ok e′ (Seq (inv (read s piece d i) q .pat) p))
       on = let v = inv (read s piece d i) q in seq-some s d i h go ∙ ap (λ r. andThen r (λ e p. andThen (read s seq d e) (λ e′ q. ok e′ (Seq p q)))) (v .is)
 
-      pub seq-tail-refused : (a : Read) → Refused a → a ≡ measured (read s seq d e) → a ≡ measured (read s seq d i)
-      seq-tail-refused a x r = refused-then a (read s seq d e) _ x r ∙ sym (ap measured on)
-
-      pub seq-both : (e′ : ℕ) (m′ k : Sum) → Ok e′ m′ ≡ measured (read s seq d e) → k ≡ seqSum m m′ → Ok e′ k ≡ measured (read s seq d i)
-      seq-both e′ m′ k r z =
-          let v = inv (read s piece d i) q in
-          let w = inv (read s seq d e) r in
-          told _ e′ k (Seq (v .pat) (w .pat)) (on ∙ ap (λ r. andThen r (λ e′ p. ok e′ (Seq (v .pat) p))) (w .is)) (ap (λ x. seqSum x (sumOf (w .pat))) (v .summed) ∙ ap (seqSum m) (w .summed) ∙ sym z)
+      pub seq-before : measured (read s seq d i) ≡ added m (measured (read s seq d e))
+      seq-before = ap measured on ∙ then-seq (inv (read s piece d i) q .pat) m (read s seq d e) (inv (read s piece d i) q .summed)
 
   -- repetition
   pub piece-refused : (a : Read) → Refused a → a ≡ measured (read s atom d i) → a ≡ measured (read s piece d i)

@@ -1,4 +1,5 @@
 // Measuring a pattern text: alternatives, sequences and atoms call each other; the bytes left, paired with the grammar level, fall.
+// Alternatives and sequences are loops, so that the stack grows with the open groups alone.
 ghost use mathlib.Core.Path.{_≡_};
 ghost use Prim.Native.Nat.{_≤_, _<_, _+_, max};
 ghost use lib.ListN.{length};
@@ -24,6 +25,17 @@ pub enum Read {
     Ok { end: usize, sum: Sum },
     Form(usize),
     Deep(usize),
+}
+
+// The measures of nothing.
+fn none() -> Sum
+    ensures { λ r. ⌜ r ≡ record { size = 0; width = 0; tags = 0 } ⌝ }
+{
+    Sum {
+        size: 0,
+        width: 0,
+        tags: 0,
+    }
 }
 
 // The measures of one record.
@@ -145,24 +157,21 @@ pub fn alternatives(s: &[u8], at: usize, depth: usize) -> Read
     requires { ⌜ (at ≤ length (now s)) × (depth ≤ 16) × (length (now s) ≤ 255) ⌝ }
     ensures { λ r. ⌜ r ≡ measured (read (now (s .entry)) alts depth at) ⌝ }
 {
-    let first = sequence(s, at, depth);
-    let Read::Ok { end, sum } = first else {
-        return first;
-    };
-    if look(s, end) != 124 {
-        return first;
-    }
-    let rest = alternatives(s, end + 1, depth);
-    let Read::Ok {
-        end: end2,
-        sum: sum2,
-    } = rest
-    else {
-        return rest;
-    };
-    Read::Ok {
-        end: end2,
-        sum: alt_sum(sum, sum2),
+    let mut sum = none();
+    let mut i = at;
+    loop {
+        let one = sequence(s, i, depth);
+        let Read::Ok { end, sum: more } = one else {
+            return one;
+        };
+        if look(s, end) != 124 {
+            return Read::Ok {
+                end,
+                sum: seq_sum(sum, more),
+            };
+        }
+        sum = alt_sum(sum, more);
+        i = end + 1;
     }
 }
 
@@ -171,32 +180,19 @@ pub fn sequence(s: &[u8], at: usize, depth: usize) -> Read
     requires { ⌜ (at ≤ length (now s)) × (depth ≤ 16) × (length (now s) ≤ 255) ⌝ }
     ensures { λ r. ⌜ r ≡ measured (read (now (s .entry)) seq depth at) ⌝ }
 {
-    let c = look(s, at);
-    if stops_at(c) {
-        return Read::Ok {
-            end: at,
-            sum: Sum {
-                size: 0,
-                width: 0,
-                tags: 0,
-            },
+    let mut sum = none();
+    let mut i = at;
+    loop {
+        let c = look(s, i);
+        if stops_at(c) {
+            return Read::Ok { end: i, sum };
+        }
+        let one = repeated(s, i, depth);
+        let Read::Ok { end, sum: more } = one else {
+            return one;
         };
-    }
-    let first = repeated(s, at, depth);
-    let Read::Ok { end, sum } = first else {
-        return first;
-    };
-    let rest = sequence(s, end, depth);
-    let Read::Ok {
-        end: end2,
-        sum: sum2,
-    } = rest
-    else {
-        return rest;
-    };
-    Read::Ok {
-        end: end2,
-        sum: seq_sum(sum, sum2),
+        sum = seq_sum(sum, more);
+        i = end;
     }
 }
 

@@ -292,21 +292,28 @@ fn mark_item(x: Gain, marks: &mut [u8])
     }
 }
 
-// The bytes that the rest of a set lists, from i on, are marked.
+// The bytes that the rest of a set lists, from i on, are marked. A loop, so that a long set asks for no more stack.
 fn mark(s: &[u8], i: usize, st: Stand, marks: &mut [u8])
     requires { ⌜ (i ≤ length (now s)) × Sound i st × (length (now marks) ≡ 256) ⌝ }
     ensures { λ _. ⌜ ((xs : List Item) → Marks (now (marks .entry)) xs → Listed (now (marks .exit)) (steps.scan (drop i (now (s .entry))) i (stands (now (s .entry)) i st) xs)) ⌝ }
 {
-    if s.len() <= i {
-        return;
-    }
-    let x = item_at(s, i, st);
-    mark_item(x, marks);
-    let next = step_on(s, i, st);
-    match next {
-        Stand::Bad => {}
-        Stand::Shut => {}
-        _ => mark(s, i + 1, next, marks),
+    let mut at = i;
+    let mut cur = st;
+    while at < s.len() {
+        let x = item_at(s, at, cur);
+        mark_item(x, marks);
+        let next = step_on(s, at, cur);
+        match next {
+            Stand::Bad => {
+                return;
+            }
+            Stand::Shut => {
+                return;
+            }
+            _ => {}
+        }
+        cur = next;
+        at += 1;
     }
 }
 
@@ -322,20 +329,28 @@ pub fn mark_set(s: &[u8], i: usize, marks: &mut [u8])
     mark(s, i + 1, Stand::Fresh, marks)
 }
 
-// The end of a set from i on.
+// The end of a set from i on, by a loop too.
 fn scan(s: &[u8], i: usize, st: Stand) -> Scanned
     requires { ⌜ (i ≤ length (now s)) × Sound i st ⌝ }
     ensures { λ r. ⌜ ((xs : List Item) → r ≡ seen (steps.scan (drop i (now (s .entry))) i (stands (now (s .entry)) i st) xs)) ⌝ }
 {
-    if s.len() <= i {
-        return Scanned::Wrong(i);
+    let mut at = i;
+    let mut cur = st;
+    while at < s.len() {
+        let next = step_on(s, at, cur);
+        match next {
+            Stand::Bad => {
+                return Scanned::Wrong(at);
+            }
+            Stand::Shut => {
+                return Scanned::At(at + 1);
+            }
+            _ => {}
+        }
+        cur = next;
+        at += 1;
     }
-    let next = step_on(s, i, st);
-    match next {
-        Stand::Bad => Scanned::Wrong(i),
-        Stand::Shut => Scanned::At(i + 1),
-        _ => scan(s, i + 1, next),
-    }
+    Scanned::Wrong(at)
 }
 
 // The end of the set whose `[` stands at i. Its caller has seen the `[`.

@@ -160,7 +160,8 @@ fn emit_lone(s: &[u8], at: usize, out: &mut [u8], o: usize, n: usize, f: usize) 
     put_range(out, o, c, c, f)
 }
 
-// Alternatives: the first record has number n and stands at o, and f is what follows.
+// Alternatives: the first record has number n and stands at o, and f is what follows. They are measured as a whole first: so none is
+// refused in the loop, and `last` tells whether records are left.
 fn emit_alternatives(
     s: &[u8],
     at: usize,
@@ -173,27 +174,34 @@ fn emit_alternatives(
     requires { ⌜ (at ≤ length (now s)) × (depth ≤ 16) × (length (now s) ≤ 255) × Room (read (now s) alts depth at) n f o (length (now out)) ⌝ }
     ensures { λ r. ⌜ Wrote (now (out .entry)) (now (out .exit)) o r (coded (read (now (s .entry)) alts depth at) n f) ⌝ }
 {
-    let first = sequence(s, at, depth);
-    let Read::Ok { end, sum } = first else {
+    let whole = alternatives(s, at, depth);
+    let Read::Ok { end: _, sum } = whole else {
         return o;
     };
-    let size = sum.size;
-    if look(s, end) != 124 {
-        return emit_sequence(s, at, depth, out, o, n, f);
+    let last = n + sum.size;
+    let mut i = at;
+    let mut k = n;
+    let mut p = o;
+    loop {
+        let one = sequence(s, i, depth);
+        let Read::Ok { end, sum: more } = one else {
+            return p;
+        };
+        if look(s, end) != 124 {
+            return emit_sequence(s, i, depth, out, p, k, f);
+        }
+        let size = more.size;
+        let x = start_at(size, k + 1, f);
+        let next = k + 1 + size;
+        let y = start_at(last - next, next, f);
+        let a = put_fork(out, p, x, y);
+        p = emit_sequence(s, i, depth, out, a, k + 1, f);
+        k = next;
+        i = end + 1;
     }
-    let rest = alternatives(s, end + 1, depth);
-    let Read::Ok { end: _, sum: sum2 } = rest else {
-        return o;
-    };
-    let size2 = sum2.size;
-    let x = start_at(size, n + 1, f);
-    let y = start_at(size2, n + 1 + size, f);
-    let a = put_fork(out, o, x, y);
-    let b = emit_sequence(s, at, depth, out, a, n + 1, f);
-    emit_alternatives(s, end + 1, depth, out, b, n + 1 + size, f)
 }
 
-// A sequence.
+// A sequence, in the same way.
 fn emit_sequence(
     s: &[u8],
     at: usize,
@@ -206,22 +214,28 @@ fn emit_sequence(
     requires { ⌜ (at ≤ length (now s)) × (depth ≤ 16) × (length (now s) ≤ 255) × Room (read (now s) seq depth at) n f o (length (now out)) ⌝ }
     ensures { λ r. ⌜ Wrote (now (out .entry)) (now (out .exit)) o r (coded (read (now (s .entry)) seq depth at) n f) ⌝ }
 {
-    if stops_at(look(s, at)) {
+    let whole = sequence(s, at, depth);
+    let Read::Ok { end: _, sum } = whole else {
         return o;
+    };
+    let last = n + sum.size;
+    let mut i = at;
+    let mut k = n;
+    let mut p = o;
+    loop {
+        if stops_at(look(s, i)) {
+            return p;
+        }
+        let one = repeated(s, i, depth);
+        let Read::Ok { end, sum: more } = one else {
+            return p;
+        };
+        let next = k + more.size;
+        let x = start_at(last - next, next, f);
+        p = emit_repeated(s, i, depth, out, p, k, x);
+        k = next;
+        i = end;
     }
-    let first = repeated(s, at, depth);
-    let Read::Ok { end, sum } = first else {
-        return o;
-    };
-    let size = sum.size;
-    let rest = sequence(s, end, depth);
-    let Read::Ok { end: _, sum: sum2 } = rest else {
-        return o;
-    };
-    let size2 = sum2.size;
-    let x = start_at(size2, n + size, f);
-    let a = emit_repeated(s, at, depth, out, o, n, x);
-    emit_sequence(s, end, depth, out, a, n + size, f)
 }
 
 // An atom, and the FORK that repeats it.

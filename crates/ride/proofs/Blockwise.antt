@@ -191,11 +191,11 @@ bits-out g a k s n first some few more from =
     ap₄ g (omega arith) (omega arith) (omega arith) (ap (λ (x : ℕ). x % 64) m ∙ q)
 
 module _ (a k s n : ℕ) where
-  pub past-bank : 64 < a + k + n → misfit a k s n ≡ true
+  past-bank : 64 < a + k + n → misfit a k s n ≡ true
   unfolding misfit
   past-bank h = picked true (ltb (a + k) s) (lt-ltb 64 (a + k + n) h)
 
-  pub downward : a + k + n ≤ 64 → a + k < s → misfit a k s n ≡ true
+  downward : a + k + n ≤ 64 → a + k < s → misfit a k s n ≡ true
   unfolding misfit
   downward g h = passed true (ltb (a + k) s) (le-ltb 64 (a + k + n) g) ∙ lt-ltb (a + k) s h
 
@@ -214,11 +214,17 @@ module _ (a k s n : ℕ) where
 -- ---- the whole block
 
 module _ (w p : ℕ) (old : Bank) where
-  pub blocked-none : {new : Bank} → ofBits misfit w ≡ true → Blocked w p old new false
+  blocked-none : {new : Bank} → ofBits misfit w ≡ true → Blocked w p old new false
   blocked-none h = record {
     done = λ z. let y : _≡_ {A = ℕ} 0 1 = cc in absurd (omega arith);
     past = λ _. h;
   }
+
+  pub blocked-past : {new : Bank} → 64 < w % 64 + (w / 64 % 32 + 1) + w / 2048 % 64 → Blocked w p old new false
+  blocked-past h = blocked-none (past-bank (w % 64) (w / 64 % 32 + 1) (w / 131072) (w / 2048 % 64) h)
+
+  pub blocked-down : {new : Bank} → w % 64 + (w / 64 % 32 + 1) + w / 2048 % 64 ≤ 64 → w % 64 + (w / 64 % 32 + 1) < w / 131072 → Blocked w p old new false
+  blocked-down g h = blocked-none (downward (w % 64) (w / 64 % 32 + 1) (w / 131072) (w / 2048 % 64) g h)
 
   pub blocked-done : {mid new : Bank} → ofBits misfit w ≡ false
       → mid ≡ carry (moves (w % 64 + (w / 64 % 32 + 1)) (w / 131072) (w / 2048 % 64)) p old old

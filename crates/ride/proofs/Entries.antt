@@ -14,7 +14,8 @@ use Rattle.card.specs.declared.Order.the-variants.{Move, Put, Stop}
 use Rattle.card.specs.declared.RowItem.{RowItem}
 use Rattle.card.specs.declared.RowItem.the-variants.{Leads, Ends}
 use Rattle.card.proofs.Laws.{cmds-step, move-facts, put-facts}
-use Rattle.ride.specs.Need.{Alone, SetsRun, MovesRun, Begins, Sorted}
+use Rattle.run.specs.Carry.{Alone}
+use Rattle.ride.specs.Need.{SetsRun, MovesRun, Begins, Sorted}
 use Rattle.ride.specs.Image.{puts, moves, blockBits, ofList, firstTo, firstFrom, isThat, isBlock, allSets, listKind, points, entry, rowEntry, entryAt}
 use Rattle.ride.proofs.Sorting.{of-block, whole, no-from, is-block, no-block}
 
@@ -44,21 +45,6 @@ module _ (s : List ℕ) (i : ℕ) where
 
   pub all-stop : cmdAt s i ≡ Stop → true ≡ allSets (cmdsAt s i)
   all-stop e = sym (ap allSets (cmds-step s i Stop e))
-
-  pub alone-stop : cmdAt s i ≡ Stop → Alone s i true
-  alone-stop e = record { none = λ _. cmds-step s i Stop e; some = λ z. let y : _≡_ {A = ℕ} 0 1 = cc in absurd (omega arith) }
-
-  pub alone-move : (t f : ℕ) → cmdAt s i ≡ Move t f → Alone s i false
-  alone-move t f e = record {
-    none = λ z. let y : _≡_ {A = ℕ} 0 1 = cc in absurd (omega arith);
-    some = λ _ n. let h = cmds-step s i (Move t f) e in let y : _≡_ {A = ℕ} 0 1 = cc in omega arith;
-  }
-
-  pub alone-put : (t : ℕ) → cmdAt s i ≡ Put t → Alone s i false
-  alone-put t e = record {
-    none = λ z. let y : _≡_ {A = ℕ} 0 1 = cc in absurd (omega arith);
-    some = λ _ n. let h = cmds-step s i (Put t) e in let y : _≡_ {A = ℕ} 0 1 = cc in omega arith;
-  }
 
   -- the source of a MOVE here
   abbrev From : ℕ → Type 0

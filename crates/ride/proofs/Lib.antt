@@ -1,7 +1,6 @@
 pub mod Blockwise
 pub mod Sorting
 pub mod Obeying
-pub mod Filling
 pub mod Telling
 pub mod Riding
 pub mod Answering

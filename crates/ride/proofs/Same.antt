@@ -4,51 +4,35 @@ use native.Mathlib.Omega.{arith}
 use mathlib.Core.Path.{_≡_, refl, sym, ap, ap₂, _∙_, subst}
 use mathlib.Core.Bool.{Bool, false}
 use mathlib.Core.Logic.{_⊎_, inl, inr, ⊎-elim}
-use mathlib.Core.List.{List, [], _∷_, map}
-use lib.ListN.{length, getD, take, drop}
+use mathlib.Core.List.{List, [], _∷_}
+use lib.ListN.{length, getD}
 use lib.IntN.{ℤ}
 use lib.Dec.{eqb}
-use borrow.Author.Tests.{eq-eqb, ne-eqb, lt-ltb, le-ltb}
 use Rattle.ground.specs.Pick.{pick}
-use Rattle.card.specs.Table.{Cmd, Row, Sit, Table, FormedSit, Formed}
-use Rattle.card.specs.Run.{Bank, reg, absent, lineMax, empties, Out, ok, stuck, apply, State, at, lost, arrive, sit, rowFor, rowIn, step, run, begun, over, Line, Told, refused, placeAt, told, ends, tells}
-use Rattle.ground.specs.Lists.{Bytes}
-use Rattle.ground.proofs.Tests.{lt-or-le}
+use Rattle.card.specs.Table.{Cmd, Row, Sit, Table, Formed}
+use Rattle.card.specs.Run.{Bank, lineMax, empties, Out, ok, stuck, apply, State, at, lost, arrive, sit, rowFor, rowIn, step, run, begun, over, Line, Told, refused, told, ends, tells}
 use Rattle.card.specs.Decode.{cmdsAt, rowsAt, sitAt, tableAt, placesOf}
 use Rattle.card.specs.Judged.{Judged}
+use Rattle.ground.specs.Lists.{Bytes}
+use Rattle.ground.proofs.Tests.{lt-or-le}
 use Rattle.loader.specs.Flow.{Ready}
-use Rattle.loader.proofs.Shape.{in-table, leads-in, next-in}
+use Rattle.loader.proofs.Shape.{leads-in, next-in}
 use Rattle.loader.proofs.Situated.{table-long, sit-here, rows-here, room-here, count-most}
 use Rattle.loader.proofs.Judging.{not-stuck, is-formed}
 use Rattle.run.specs.Carry.{carry}
 use Rattle.run.specs.Runs.{Runs, long, fit}
 use Rattle.run.proofs.Carrying.{carried}
+use Rattle.run.proofs.Filling.{told-fields}
 use Rattle.run.proofs.Riding.{run-lost}
+use Rattle.run.proofs.Telling.{eight}
 use Rattle.run.proofs.One.{runs-one}
 use Rattle.ride.specs.Image.{nextOf, spotAt, entryAt, Imaged, Mounts, unfit, small, written}
-use Rattle.ride.specs.Ride.{orders, fieldAt, endAt, taking, ridesFrom, started, ridden}
+use Rattle.ride.specs.Ride.{orders, endAt, taking, ridesFrom, started, ridden}
 use Rattle.ride.proofs.Riding.{counted}
 use Rattle.ride.proofs.Telling.{end-of}
 use Rattle.ride.proofs.Answering.{ridden-long, ridden-on}
 use Rattle.ride.proofs.Mounting.{taken-short}
 use Rattle.ride.proofs.Mounted.{SaysRow, sets-whole, spot-says}
-
--- ---- fields
-
-same-field : (bank : Bank) (f : ℕ) → (f ≡ 255) ⊎ (f < 64) → fieldAt bank f ≡ placeAt bank f
-unfolding pick
-same-field bank f (inl e) =
-    ap (λ (b : Bool). pick b (reg bank f) absent) (le-ltb f 64 (omega arith))
-    ∙ sym (ap (λ (b : Bool). pick b absent (reg bank f)) (eq-eqb f 255 e))
-same-field bank f (inr l) =
-    ap (λ (b : Bool). pick b (reg bank f) absent) (lt-ltb f 64 l)
-    ∙ sym (ap (λ (b : Bool). pick b absent (reg bank f)) (ne-eqb f 255 (λ e. omega arith)))
-
-same-fields : (bank : Bank) (l : List ℕ) → ((t : ℕ) → t < length l → (getD l t 0 ≡ 255) ⊎ (getD l t 0 < 64))
-    → map (fieldAt bank) l ≡ map (placeAt bank) l
-same-fields bank [] h = refl
-same-fields bank (f ∷ l) h =
-    ap₂ (λ (x : ℤ) (m : List ℤ). x ∷ m) (same-field bank f (h 0 (omega arith))) (same-fields bank l (λ t i. h (suc t) (omega arith)))
 
 -- ---- the way
 
@@ -75,20 +59,8 @@ module _ {s old image : List ℕ} (j : Judged s 0) (m : Imaged s old image) wher
         ∙ sym (end-of s bank (getD (placesOf s) q 0) (omega arith))
         ∙ ap (λ (x : List ℤ). pick (eqb (getD s (getD (placesOf s) q 0 + 1) 0) 255) (refused 16)
         (record { code = 0; answer = getD s (getD (placesOf s) q 0 + 1) 0; places = x }))
-        (same-fields bank (take 8 (drop (getD (placesOf s) q 0 + 2) s)) each-field)
+        (told-fields bank (eight ready l) refl)
         ∙ sym (ap (λ (x : Sit). told x bank) (sit-here ready l))
-      where
-        sit-formed : FormedSit (tableAt s .tags) (tableAt s .registers) (length (tableAt s .sits)) (sitAt s (getD (placesOf s) q 0))
-        sit-formed =
-            subst (λ (x : Sit). FormedSit (tableAt s .tags) (tableAt s .registers) (length (tableAt s .sits)) x) (sit-here ready l)
-            (in-table (tableAt s) formed q (in-sits l))
-
-        each-field : (t : ℕ) → t < length (sitAt s (getD (placesOf s) q 0) .fields)
-            → (getD (sitAt s (getD (placesOf s) q 0) .fields) t 0 ≡ 255) ⊎ (getD (sitAt s (getD (placesOf s) q 0) .fields) t 0 < 64)
-        each-field t h =
-            ⊎-elim (λ (e : getD (sitAt s (getD (placesOf s) q 0) .fields) t 0 ≡ 255). inl e)
-            (λ (e : getD (sitAt s (getD (placesOf s) q 0) .fields) t 0 < tableAt s .registers). inr (let k = formed .registers in omega arith))
-            (sit-formed .fields t (omega (arith, sit-formed .eight)) .register)
 
     module _ {b : ℕ} (h : b < 256) where
       abbrev x : Row

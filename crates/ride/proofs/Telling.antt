@@ -9,7 +9,8 @@ use lib.Dec.{ltb, eqb}
 use borrow.Author.Tests.{eq-eqb, ne-eqb, lt-ltb, le-ltb}
 use Rattle.ground.specs.Pick.{pick}
 use Rattle.card.specs.Run.{Bank, Told, refused}
-use Rattle.ride.specs.Ride.{fieldAt, endAt}
+use Rattle.run.specs.Carry.{fieldAt}
+use Rattle.ride.specs.Ride.{endAt}
 
 module _ (s : List ℕ) (bank : Bank) (at : ℕ) where
   abbrev matched : Told

@@ -15,22 +15,25 @@ use Rattle.ride.proofs.Spots.{spot-on}
 
 -- ---- one situation
 
--- b entries are written, and the later ones may be looked for from i on
-pub record Filling (s : List ℕ) (at from : ℕ) (old new : List ℕ) (i b : ℕ) : Type 0 where
+-- b entries are written, the later ones may be looked for from i on, and v is the entry there
+pub record Filling (s : List ℕ) (at from : ℕ) (old new : List ℕ) (i v b : ℕ) : Type 0 where
+  pub held : v ≡ entryAt s i
   pub done : RowImaged s at from b old new
   pub most : b ≤ 256
   pub ahead : (d : ℕ) → b ≤ d → spotAt s i d ≡ spotAt s at d
 
-pub filling-none : (s : List ℕ) (at from : ℕ) (old : List ℕ) → Filling s at from old old at 0
-filling-none s at from old = record {
+pub filling-none : (s : List ℕ) (at from : ℕ) (old : List ℕ) (v : ℕ) → v ≡ entryAt s at → Filling s at from old old at v 0
+filling-none s at from old v h = record {
+  held = h;
   done = record { long = refl; entries = λ b h. absurd (omega arith); rest = λ k h. refl };
   most = omega arith;
   ahead = λ d h. refl;
 }
 
-module _ {s : List ℕ} {at from : ℕ} {old new : List ℕ} {i b : ℕ} (room : from + 256 ≤ length old) (g : Filling s at from old new i b) (l : b < 256) where
-  pub filling-next : (j v : ℕ) → j ≡ spotAt s i b → v ≡ entryAt s j → Filling s at from old (set new (from + b) v) j (b + 1)
+module _ {s : List ℕ} {at from : ℕ} {old new : List ℕ} {i u b : ℕ} (room : from + 256 ≤ length old) (g : Filling s at from old new i u b) (l : b < 256) where
+  filling-next : (j v : ℕ) → j ≡ spotAt s i b → v ≡ entryAt s j → Filling s at from old (set new (from + b) v) j v (b + 1)
   filling-next j v hj hv = record {
+    held = hv;
     done = record {
       long = length-set new (from + b) v ∙ g .done .long;
       entries = λ d h. by d h (ℕ-discrete d b);
@@ -51,7 +54,14 @@ module _ {s : List ℕ} {at from : ℕ} {old new : List ℕ} {i b : ℕ} (room :
           ∙ hv ∙ ap (entryAt s) (hj ∙ g .ahead b (omega arith)) ∙ ap (λ (n : ℕ). entryAt s (spotAt s at n)) (sym e)
       by d h (no n) = getD-set-other new (from + b) (from + d) v 0 (λ e. n (omega arith)) ∙ g .done .entries d (omega arith)
 
-pub filling-all : {s : List ℕ} {at from : ℕ} {old new : List ℕ} {i b : ℕ} → Filling s at from old new i b → 256 ≤ b → RowImaged s at from 256 old new
+  -- a new row, or that of the byte before
+  pub filling-new : {j v : ℕ} (p : ℕ) → p ≡ spotAt s i b → j ≡ p → v ≡ entryAt s p → Filling s at from old (set new (from + b) v) j v (b + 1)
+  filling-new {j} {v} p hp hj hv = filling-next j v (hj ∙ hp) (hv ∙ ap (entryAt s) (sym hj))
+
+  pub filling-same : {j v : ℕ} (p : ℕ) → p ≡ spotAt s i b → p ≡ i → j ≡ i → v ≡ u → Filling s at from old (set new (from + b) v) j v (b + 1)
+  filling-same {j} {v} p hp hi hj hv = filling-next j v (hj ∙ sym hi ∙ hp) (hv ∙ g .held ∙ ap (entryAt s) (sym hj))
+
+pub filling-all : {s : List ℕ} {at from : ℕ} {old new : List ℕ} {i v b : ℕ} → Filling s at from old new i v b → 256 ≤ b → RowImaged s at from 256 old new
 filling-all {s} {at} {from} {old} {new} g h = subst (λ (n : ℕ). RowImaged s at from n old new) (omega (arith, g .most)) (g .done)
 
 -- ---- all situations

@@ -1,7 +1,7 @@
 -- What the inner functions of a ride are told and say. Assumes nothing: these are definitions.
 use mathlib.Core.Path.{_≡_}
 use mathlib.Core.Bool.{Bool, true, false}
-use mathlib.Core.List.{List, [], _∷_, _++_}
+use mathlib.Core.List.{List, _∷_, _++_}
 use mathlib.Core.Logic.{_⊎_}
 use Prim.Native.Nat.{ℕ, _+_, _*_, _<_, _≤_}
 use lib.ListN.{length, getD}
@@ -69,8 +69,3 @@ pub record Begins (s : List ℕ) (at a : ℕ) : Type 0 where
 pub record Sorted (s : List ℕ) (at k p : ℕ) : Type 0 where
   pub kind : k ≡ listKind (cmdsAt s at)
   pub spot : p ≡ points (cmdsAt s at) at
-
--- whether no command stands at a place
-pub record Alone (s : List ℕ) (at : ℕ) (r : Bool) : Type 0 where
-  pub none : r ≡ true → cmdsAt s at ≡ []
-  pub some : r ≡ false → cmdsAt s at ≡ [] → ⊥

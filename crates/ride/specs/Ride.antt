@@ -4,13 +4,12 @@ use mathlib.Core.Bool.{Bool, true, false}
 use mathlib.Core.List.{List, [], _∷_, map}
 use Prim.Native.Nat.{ℕ, suc, _+_, _*_}
 use lib.ListN.{length, getD, take, drop}
-use lib.IntN.{ℤ}
 use lib.Dec.{ltb, leb, eqb}
 use Rattle.ground.specs.Pick.{pick}
 use Rattle.card.specs.Table.{Cmd, move, put}
-use Rattle.card.specs.Run.{Bank, reg, absent, empties, lineMax, Told, refused}
+use Rattle.card.specs.Run.{Bank, empties, lineMax, Told, refused}
 use Rattle.card.specs.Decode.{cmdsAt}
-use Rattle.run.specs.Carry.{carry}
+use Rattle.run.specs.Carry.{carry, fieldAt}
 use Rattle.ride.specs.Image.{block, misfit, ofBits, nextOf, kindOf, listOf}
 
 -- the SETs that a list begins with
@@ -33,10 +32,6 @@ listless s e = pick (eqb (kindOf e) 0) false (pick (eqb (kindOf e) 3) (ofBits mi
 -- an entry that points outside: at a situation that the HEAD does not count, at no block, or at a list past the table's end
 unfoldable pub astray : List ℕ → ℕ → Bool
 astray s e = pick (leb (getD s 4 0) (nextOf e)) true (listless s e)
-
--- a field that names no register says absent
-abbrev pub fieldAt : Bank → ℕ → ℤ
-fieldAt bank f = pick (ltb f 64) (reg bank f) absent
 
 -- what the situation at a place tells of a bank
 unfoldable pub endAt : List ℕ → Bank → (at : ℕ) → Told

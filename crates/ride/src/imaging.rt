@@ -4,9 +4,10 @@ ghost use Prim.Native.Nat.{_<_, _≤_};
 ghost use Rattle.ground.specs.Pick.{pick};
 ghost use Rattle.card.specs.Decode.{cmdsAt};
 ghost use Rattle.ride.specs.Image.{firstFrom, allSets, entry, spotAt, entryAt, Imaged};
-ghost use Rattle.ride.specs.Need.{Alone, SetsRun, MovesRun, Begins, Sorted, RowImaged, Room, Mountable};
+ghost use Rattle.ride.specs.Need.{SetsRun, MovesRun, Begins, Sorted, RowImaged, Room, Mountable};
 use card::Order;
 use card::RowItem;
+use run::lists;
 
 // The kind of a list of commands, and where it stands or the numbers of its block.
 struct Sort {
@@ -37,24 +38,6 @@ fn all_sets(s: &[u8], at: usize) -> bool
             Order::Stop => {
                 return true;
             }
-        }
-    }
-}
-
-// Whether no command stands at a place.
-fn alone(s: &[u8], at: usize) -> bool
-    ensures { λ r. ⌜ Alone (now (s .entry)) at r ⌝ }
-{
-    let o = card::read_cmd(s, at);
-    match o {
-        Order::Stop => {
-            return true;
-        }
-        Order::Move(_, _) => {
-            return false;
-        }
-        Order::Put(_) => {
-            return false;
         }
     }
 }
@@ -168,7 +151,7 @@ fn block_sort(s: &[u8], at: usize, a: usize) -> Sort
     if a + k < f {
         return plain_sort(s, at);
     }
-    if !alone(s, end) {
+    if !lists::alone(s, end) {
         return plain_sort(s, at);
     }
     Sort {
@@ -238,16 +221,21 @@ fn entry_at(s: &[u8], at: usize) -> u32
 }
 
 // The 256 entries of the situation whose rows stand at a place, written from a place of the image on. Bytes rise, so
-// each looks for its row from the row of the byte before it.
+// each looks for its row from the row of the byte before it, and a row's entry is made once.
 fn fill_row(s: &[u8], at: usize, image: &mut [u32], from: usize)
     requires { ⌜ Room (now image) from ⌝ }
     ensures { λ _. ⌜ RowImaged (now (s .entry)) at from 256 (now (image .entry)) (now (image .exit)) ⌝ }
 {
     let mut i = at;
+    let mut e = entry_at(s, at);
     let mut b: usize = 0;
     while b < 256 {
-        i = row_spot(s, i, b);
-        image[from + b] = entry_at(s, i);
+        let p = row_spot(s, i, b);
+        if p != i {
+            i = p;
+            e = entry_at(s, p);
+        }
+        image[from + b] = e;
         b += 1;
     }
 }

@@ -3,15 +3,13 @@ mod blocks;
 mod imaging;
 
 ghost use mathlib.Core.Path.{_≡_};
-ghost use mathlib.Core.List.{map};
-ghost use Prim.Native.Nat.{_≤_, _<_, _+_, _*_};
-ghost use lib.ListN.{length, take, drop};
+ghost use Prim.Native.Nat.{_≤_, _<_};
 ghost use Rattle.card.specs.Decode.{cmdsAt};
-ghost use Rattle.card.specs.Run.{lineMax, refused};
+ghost use Rattle.card.specs.Run.{lineMax};
 ghost use Rattle.run.specs.Carry.{carry};
 ghost use Rattle.run.specs.Runs.{toldOf};
 ghost use Rattle.ride.specs.Image.{Mounts};
-ghost use Rattle.ride.specs.Ride.{onlySets, fieldAt, endAt, ridesFrom, started, ridden};
+ghost use Rattle.ride.specs.Ride.{onlySets, endAt, ridesFrom, started, ridden};
 ghost use Rattle.ride.specs.Need.{Obeyed, Rideable};
 use answers::LINE_LONG;
 use answers::NO_MATCH;
@@ -19,6 +17,8 @@ use answers::OUT_SMALL;
 use answers::TABLE_FORM;
 use card::Order;
 use run::Ran;
+use run::lists;
+use run::refusal;
 
 // The longest line.
 const LINE_MAX: usize = 32767;
@@ -28,17 +28,6 @@ fn word(x: u32) -> usize
     ensures { λ r. ⌜ r ≡ x ⌝ }
 {
     x as usize
-}
-
-// "Unless OK, .. the run's answer is 255 and its eight positions are -1."
-fn refusal(code: u8) -> Ran
-    ensures { λ r. ⌜ toldOf r ≡ refused code ⌝ }
-{
-    Ran {
-        code,
-        answer: 255,
-        places: [-1i16; 8],
-    }
 }
 
 // The SETs that the list at a place begins with. They read no register, so they need no old bank.
@@ -57,32 +46,6 @@ fn set_list(s: &[u8], at: usize, place: usize, bank: &mut [i16; 64])
             }
             Order::Move(_, _) => {
                 return;
-            }
-            Order::Stop => {
-                return;
-            }
-        }
-    }
-}
-
-// The whole list at a place: all sources are read from the old bank.
-fn move_list(s: &[u8], at: usize, place: usize, old: &[i16; 64], bank: &mut [i16; 64])
-    requires { ⌜ place ≤ lineMax ⌝ }
-    ensures { λ _. ⌜ now (bank .exit) ≡ carry (cmdsAt (now (s .entry)) at) place (now (old .entry)) (now (bank .entry)) ⌝ }
-{
-    let v = ground::held(place);
-    let mut i = at;
-    loop {
-        let o = card::read_cmd(s, i);
-        match o {
-            Order::Move(to, from) => {
-                let x = old[from];
-                bank[to] = x;
-                i += 3;
-            }
-            Order::Put(to) => {
-                bank[to] = v;
-                i += 2;
             }
             Order::Stop => {
                 return;
@@ -117,27 +80,8 @@ fn obey(s: &[u8], e: usize, place: usize, bank: &mut [i16; 64]) -> bool
         set_list(s, at, place, bank);
         return true;
     }
-    let old = *bank;
-    move_list(s, at, place, &old, bank);
+    lists::carry_list(s, at, place, bank);
     true
-}
-
-// The places that the eight fields at a place name.
-fn fields_at(s: &[u8], at: usize, bank: &[i16; 64]) -> [i16; 8]
-    requires { ⌜ at + 8 ≤ length (now s) ⌝ }
-    ensures { λ r. ⌜ r ≡ map (fieldAt (now (bank .entry))) (take 8 (drop at (now (s .entry)))) ⌝ }
-{
-    let mut out = [-1i16; 8];
-    let mut t: usize = 0;
-    while t < 8 {
-        let f = ground::wide(s[at + t]);
-        if f < 64 {
-            let v = bank[f];
-            out[t] = v;
-        }
-        t += 1;
-    }
-    out
 }
 
 // What the situation at a place tells.
@@ -152,7 +96,7 @@ fn tell(s: &[u8], at: usize, bank: &[i16; 64]) -> Ran
     if answer == 255 {
         return refusal(NO_MATCH);
     }
-    let places = fields_at(s, at + 2, bank);
+    let places = run::fields_at(s, at + 2, bank);
     Ran {
         code: 0,
         answer,

@@ -15,7 +15,7 @@ use Rattle.card.specs.declared.RowItem.{RowItem}
 use Rattle.card.specs.declared.RowItem.the-variants.{Leads, Ends}
 use Rattle.card.proofs.Laws.{cmds-step, at-end}
 use Rattle.card.proofs.Rows.{row-ends, row-here, row-later}
-use Rattle.run.specs.Carry.{carry, LeadsTo, Listless}
+use Rattle.run.specs.Carry.{carry, LeadsTo}
 
 -- ---- one command
 

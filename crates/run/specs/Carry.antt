@@ -5,9 +5,11 @@ use mathlib.Core.List.{List, [], _∷_}
 use mathlib.Core.Logic.{_⊎_}
 use Prim.Native.Nat.{ℕ, _+_, _≤_, _<_}
 use lib.ListN.{length, getD, set}
-use lib.IntN.{pos}
+use lib.IntN.{ℤ, pos}
+use lib.Dec.{ltb}
 use Rattle.card.specs.Table.{Cmd, move, put, Row}
-use Rattle.card.specs.Run.{Bank, reg, lineMax, lost, over}
+use Rattle.ground.specs.Pick.{pick}
+use Rattle.card.specs.Run.{Bank, reg, absent, lineMax, lost, over}
 use Rattle.card.specs.Decode.{cmdsAt, tableAt}
 use Rattle.loader.specs.Flow.{Ready}
 
@@ -18,13 +20,23 @@ carry (move t f ∷ l) p old cur = carry l p old (set cur t (reg old f))
 carry (put t ∷ l) p old cur = carry l p old (set cur t (pos p))
 
 -- whether no command stands at a place
-pub record Listless (s : List ℕ) (at : ℕ) (r : Bool) : Type 0 where
+pub record Alone (s : List ℕ) (at : ℕ) (r : Bool) : Type 0 where
   pub none : r ≡ true → cmdsAt s at ≡ []
+  pub some : r ≡ false → cmdsAt s at ≡ [] → ⊥
+
+-- the list at a place is carried out, or nothing is done
+pub record Tried (s : List ℕ) (at place : ℕ) (old cur new : Bank) (r : Bool) : Type 0 where
+  pub done : r ≡ true → new ≡ carry (cmdsAt s at) place old cur
+  pub left : r ≡ false → new ≡ old
 
 -- a row, by the situation that it leads to and the place of its commands
 pub record LeadsTo (s : List ℕ) (x : Row) (n at : ℕ) : Type 0 where
   pub next : x .next ≡ n
   pub cmds : x .cmds ≡ cmdsAt s at
+
+-- a field that names no register says absent
+abbrev pub fieldAt : Bank → ℕ → ℤ
+fieldAt bank f = pick (ltb f 64) (reg bank f) absent
 
 -- each of the eight fields at a place is absent or a register
 pub record Eight (s : List ℕ) (at : ℕ) : Type 0 where

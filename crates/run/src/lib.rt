@@ -1,16 +1,17 @@
 // A run of a table over a line.
+pub mod lists;
+
 ghost use mathlib.Core.Path.{_≡_};
 ghost use mathlib.Core.List.{map};
 ghost use Prim.Native.Nat.{_≤_, _<_, _+_};
-ghost use lib.ListN.{getD, take, drop};
-ghost use Rattle.card.specs.Decode.{cmdAt, cmdsAt, rowsAt, tableAt};
-ghost use Rattle.card.specs.Run.{lineMax, rowFor, at, over, refused, placeAt, tells};
-ghost use Rattle.run.specs.Carry.{carry, LeadsTo, Eight, Rides, Listless};
+ghost use lib.ListN.{length, getD, take, drop};
+ghost use Rattle.card.specs.Decode.{cmdsAt, rowsAt, tableAt};
+ghost use Rattle.card.specs.Run.{lineMax, rowFor, at, over, refused, tells};
+ghost use Rattle.run.specs.Carry.{carry, LeadsTo, fieldAt, Rides};
 ghost use Rattle.run.specs.Runs.{toldOf, Runs};
 use answers::LINE_LONG;
 use answers::NO_MATCH;
 use bank::Bank;
-use card::Order;
 use card::RowItem;
 
 // The longest line.
@@ -35,43 +36,14 @@ pub struct Stand {
     pub bank: Bank,
 }
 
-// Whether no command stands at a place.
-fn no_list(s: &[u8], at: usize) -> bool
-    ensures { λ r. ⌜ Listless (now (s .entry)) at r ⌝ }
-{
-    let o = card::read_cmd(s, at);
-    let Order::Stop = o else {
-        return false;
-    };
-    true
-}
-
-// The list of commands at a place, on a bank: all sources are read from the old bank. The stores are direct, since a call
-// for each command would copy the bank each time.
+// The list of commands at a place, on a bank that is handed in and handed back.
 fn apply_list(s: &[u8], at: usize, place: usize, old: Bank) -> Bank
     requires { ⌜ place ≤ lineMax ⌝ }
     ensures { λ r. ⌜ r .r ≡ carry (cmdsAt (now (s .entry)) at) place (old .r) (old .r) ⌝ }
 {
-    let v = ground::held(place);
     let mut cur = old;
-    let mut i = at;
-    loop {
-        let o = card::read_cmd(s, i);
-        match o {
-            Order::Move(to, from) => {
-                let x = old.r[from];
-                cur.r[to] = x;
-                i += 3;
-            }
-            Order::Put(to) => {
-                cur.r[to] = v;
-                i += 2;
-            }
-            Order::Stop => {
-                return cur;
-            }
-        }
-    }
+    lists::carry_list(s, at, place, &mut cur.r);
+    cur
 }
 
 // The row of a byte, among the rows at a place.
@@ -109,24 +81,24 @@ fn run_line(s: &[u8], places: &[usize; 96], line: &[u8]) -> Stand
         let cmds = row.cmds;
         sit = row.next;
         i += 1;
-        if !no_list(s, cmds) {
+        if !lists::alone(s, cmds) {
             bank = apply_list(s, cmds, i, bank);
         }
     }
     Stand { sit, bank }
 }
 
-// What the eight fields at a place say of a bank.
-fn fields_at(s: &[u8], at: usize, bank: Bank) -> [i16; 8]
-    requires { ⌜ Eight (now s) at ⌝ }
-    ensures { λ r. ⌜ r ≡ map (placeAt (bank .r)) (take 8 (drop at (now (s .entry)))) ⌝ }
+// The places that the eight fields at a place name. That there are eight is shown by whoever knows the situation's place.
+pub fn fields_at(s: &[u8], at: usize, bank: &[i16; 64]) -> [i16; 8]
+    requires { ⌜ at + 8 ≤ length (now s) ⌝ }
+    ensures { λ r. ⌜ r ≡ map (fieldAt (now (bank .entry))) (take 8 (drop at (now (s .entry)))) ⌝ }
 {
     let mut out = [-1i16; 8];
     let mut t: usize = 0;
     while t < 8 {
         let f = ground::wide(s[at + t]);
         if f < 64 {
-            let v = bank.r[f];
+            let v = bank[f];
             out[t] = v;
         }
         t += 1;
@@ -135,7 +107,7 @@ fn fields_at(s: &[u8], at: usize, bank: Bank) -> [i16; 8]
 }
 
 // "Unless OK, .. the run's answer is 255 and its eight positions are -1."
-fn refusal(code: u8) -> Ran
+pub fn refusal(code: u8) -> Ran
     ensures { λ r. ⌜ toldOf r ≡ refused code ⌝ }
 {
     Ran {
@@ -157,8 +129,8 @@ pub fn run_taken(s: &[u8], places: &[usize; 96], line: &[u8]) -> Ran
     if answer == 255 {
         return refusal(NO_MATCH);
     }
-    let bank = stand.bank;
-    let fields = fields_at(s, p + 2, bank);
+    let bank = stand.bank.r;
+    let fields = fields_at(s, p + 2, &bank);
     Ran {
         code: 0,
         answer,

@@ -3,9 +3,9 @@ use mathlib.Core.Path.{ap}
 use Prim.Native.Nat.{_≤_, _+_, _*_, _-_}
 use native.Mathlib.Omega.{arith}
 use lib.ListN.{drop}
+use Rattle.ground.proofs.Lists.{unmapped}
 use Rattle.ground.specs.Lists.{each}
 use Rattle.card.specs.Table.{cmd-bytes}
-use Rattle.explore.proofs.Bits.{unmapped}
 use Rattle.build.specs.Writing.{orders-of}
 use Rattle.build.proofs.Commands.{order-here, orders-done}
 use Rattle.build.proofs.Writing.{Left, left-all, left-on, left-none, left-size}

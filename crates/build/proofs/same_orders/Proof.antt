@@ -5,8 +5,8 @@ use Prim.Native.Nat.{_≤_, _-_}
 use native.Mathlib.Omega.{arith}
 use borrow.Author.Needs.{needs}
 use lib.ListN.{drop}
+use Rattle.ground.proofs.Lists.{unmapped}
 use Rattle.paths.specs.Equal.{same-list}
-use Rattle.explore.proofs.Bits.{unmapped}
 use Rattle.build.specs.Card.{same-cmd}
 use Rattle.build.specs.Writing.{orders-of}
 use Rattle.build.proofs.Commands.{orders-length, same-short, same-step, same-stop, same-end}

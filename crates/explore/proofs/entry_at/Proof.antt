@@ -35,7 +35,7 @@ loop-less : tie.Need-loop-less Inv-loop μ-loop
 loop-less c = omega arith
 
 loop-again : tie.Need-loop-again Inv-loop μ-loop
-loop-again c = (omega arith, (length-set (c .before .before .loop .had) (c .before .before .loop .t) _ ∙ c .before .before .loop .inv .1 .0, read-more (c .before .before .before .args .work .now) (c .before .before .loop .had) (c .before .before .before .args .at) (c .before .before .loop .t) (omega (arith, c .before .before .loop .inv .1 .0)) (c .before .before .loop .inv .1 .1)))
+loop-again c = (omega arith, (length-set (c .before .before .loop .had) (c .before .before .loop .t) _ ∙ c .before .before .loop .inv .1 .0, read-more (c .before .before .before .args .work .now) (c .before .before .loop .had) (c .before .before .before .args .at + 1) (c .before .before .loop .t) (omega (arith, c .before .before .loop .inv .1 .0)) (c .before .before .loop .inv .1 .1)))
 
 shared-slice-read-t13 : tie.Need-shared-slice-read-t13 Inv-loop μ-loop
 shared-slice-read-t13 c = omega arith

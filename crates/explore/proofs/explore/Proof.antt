@@ -1,15 +1,16 @@
 -- `explore::explore` meets its contract. Assumes nothing.
-use mathlib.Core.Path.{_≡_, refl, _∙_}
-use Prim.Native.Nat.{_≤_, _-_}
-use native.Mathlib.Omega.{arith}
-use lib.ListN.{length}
-use Rattle.net.specs.Items.{net-at}
-use Rattle.explore.specs.Slots.{slots}
-use Rattle.paths.specs.Limits.{first}
-use Rattle.explore.specs.Explore.{Kept}
-use Rattle.explore.proofs.Exploration.{start-over, start-kept, start-slots, explore-stop, explore-on, explored-all-of}
 use Rattle.explore.proofs.explore.Statement.{statement}
 use Rattle.explore.proofs.explore.Tie as tie
+use mathlib.Core.Path.{_≡_, refl, sym, _∙_}
+use Prim.Native.Nat.{_≤_, _-_}
+use native.Mathlib.Omega.{arith}
+use borrow.Author.Needs.{needs}
+use lib.ListN.{length}
+use Rattle.paths.specs.Limits.{first}
+use Rattle.net.specs.Items.{net-at}
+use Rattle.explore.specs.Slots.{slots}
+use Rattle.explore.specs.Explore.{Kept}
+use Rattle.explore.proofs.Exploration.{start-over, start-kept, start-slots, explore-stop, explore-on, explored-all-of}
 
 abbrev Inv-loop : tie.InvT-loop
 Inv-loop file offs news work₀ k count₀ i₀ work count i = (i ≤ count) × ((length work ≡ length work₀) × (Kept (length offs) work count × (slots work 0 count ≡ first (net-at file offs) i)))
@@ -17,23 +18,29 @@ Inv-loop file offs news work₀ k count₀ i₀ work count i = (i ≤ count) × 
 abbrev μ-loop : tie.MeasureT-loop
 μ-loop file offs news work₀ k count₀ i₀ work count i = 96 - i
 
+slice-aggregate-begin-of : tie.Need-slice-aggregate-begin-of Inv-loop μ-loop
+slice-aggregate-begin-of c = search needs
+
+slice-aggregate-begin-of-2 : tie.Need-slice-aggregate-begin-of-2 Inv-loop μ-loop
+slice-aggregate-begin-of-2 c = search needs
+
 begin-of-requires : tie.Need-begin-of-requires Inv-loop μ-loop
-begin-of-requires c κs = (c .before .before .before .before .pre .0 .0, c .before .before .before .before .pre .0 .1 .0)
+begin-of-requires c κs = (c .before .before .before .before .before .before .pre .0 .0, (c .before .before .before .before .before .before .pre .0 .1 .0, (refl, refl)))
 
 returns : tie.Need-returns Inv-loop μ-loop
-returns c = start-over _ _ _ _ (c .before .begin-of .ensures) (c .if1 .taken)
+returns c = start-over _ _ _ _ _ _ (c .before .before .before .begin-of .ensures) (c .if1 .taken)
 
-cast-store : tie.Need-cast-store Inv-loop μ-loop
-cast-store c = omega (arith, c .before .before .before .before .begin-of .ensures .is .few (c .before .before .before .if1 .left))
+slice-aggregate-store : tie.Need-slice-aggregate-store Inv-loop μ-loop
+slice-aggregate-store c = sym (c .before .before .before .before .before .begin-of .ensures .is .fit .size)
 
 store-requires : tie.Need-store-requires Inv-loop μ-loop
-store-requires c κs = (c .before .before .before .before .begin-of .ensures .is .fit .few, omega (arith, c .before .before .before .before .before .before .before .before .before .pre .1))
+store-requires c κs = (c .before .before .before .before .before .begin-of .ensures .is .fit .size, (c .before .before .before .before .before .begin-of .ensures .is .fit .few, omega (arith, c .before .before .before .before .before .before .before .before .before .before .before .before .pre .1)))
 
 loop-holds : tie.Need-loop-holds Inv-loop μ-loop
-loop-holds c = (omega arith, (refl, (start-kept _ _ _ _ (c .before .before .before .before .before .before .before .begin-of .ensures) (c .before .before .before .before .before .before .if1 .left) (c .before .before .before .before .before .before .before .before .before .before .before .before .pre .1) _ (c .before .before .store .ensures), start-slots _ _ _ _ (c .before .before .before .before .before .before .before .begin-of .ensures) (c .before .before .before .before .before .before .if1 .left) (c .before .before .before .before .before .before .before .before .before .before .before .before .pre .1) _ (c .before .before .store .ensures))))
+loop-holds c = (omega arith, (refl, (start-kept _ _ _ _ _ _ (c .before .before .before .before .before .before .before .before .begin-of .ensures) (c .before .before .before .before .before .if1 .left) (c .before .before .before .before .before .before .before .before .before .before .before .before .before .before .before .pre .1) _ (c .before .before .store .ensures), start-slots _ _ _ _ _ _ (c .before .before .before .before .before .before .before .before .begin-of .ensures) (c .before .before .before .before .before .if1 .left) (c .before .before .before .before .before .before .before .before .before .before .before .before .before .before .before .pre .1) _ (c .before .before .store .ensures))))
 
 expand-requires : tie.Need-expand-requires Inv-loop μ-loop
-expand-requires c κs = ((c .before .before .before .before .before .before .before .before .before .before .before .before .before .before .before .pre .0 .0, c .before .before .before .before .before .before .before .before .before .before .before .before .before .before .before .pre .0 .1 .1), (c .before .before .loop .inv .1 .1 .0, omega arith))
+expand-requires c κs = ((c .before .before .before .before .before .before .before .before .before .before .before .before .before .before .before .before .before .before .pre .0 .0, c .before .before .before .before .before .before .before .before .before .before .before .before .before .before .before .before .before .before .pre .0 .1 .1), (c .before .before .loop .inv .1 .1 .0, omega arith))
 
 same-length : tie.Need-same-length Inv-loop μ-loop
 same-length c = c .before .before .before .before .expand .ensures .size ∙ c .before .before .before .before .before .before .before .loop .inv .1 .0 ∙ c .before .before .before .before .before .before .before .before .before .before .store .ensures .size
@@ -49,7 +56,7 @@ loop-less c = omega (arith, c .before .before .before .before .before .before .b
 
 loop-again : tie.Need-loop-again Inv-loop μ-loop
 loop-again c =
-    let q = explore-on _ _ (c .before .before .before .before .before .before .before .before .before .before .before .before .before .before .before .before .before .before .before .before .args .work .now) _ _ _ _ _ (c .before .before .before .before .before .before .before .loop .inv .1 .0 ∙ c .before .before .before .before .before .before .before .before .before .before .store .ensures .size) (c .before .before .before .before .before .before .before .loop .inv .1 .1 .1) (omega arith) (c .before .before .before .before .expand .ensures) (c .if2 .left) in
+    let q = explore-on _ _ (c .before .before .before .before .before .before .before .before .before .before .before .before .before .before .before .before .before .before .before .before .before .before .before .args .work .now) _ _ _ _ _ (c .before .before .before .before .before .before .before .loop .inv .1 .0 ∙ c .before .before .before .before .before .before .before .before .before .before .store .ensures .size) (c .before .before .before .before .before .before .before .loop .inv .1 .1 .1) (omega arith) (c .before .before .before .before .expand .ensures) (c .if2 .left) in
     (omega (arith, q .1 .1), (c .before .before .before .before .expand .ensures .size ∙ c .before .before .before .before .before .before .before .loop .inv .1 .0, (q .0, q .1 .0)))
 
 same-length-2 : tie.Need-same-length-2 Inv-loop μ-loop
@@ -64,9 +71,11 @@ explore-spec =
     (tie.spec
     Inv-loop
     μ-loop
+    slice-aggregate-begin-of
+    slice-aggregate-begin-of-2
     begin-of-requires
     returns
-    cast-store
+    slice-aggregate-store
     store-requires
     loop-holds
     expand-requires

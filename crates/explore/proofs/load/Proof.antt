@@ -1,63 +1,44 @@
 -- `explore::load` meets its contract. Assumes nothing.
-use mathlib.Core.Path.{_≡_, sym, ap, _∙_}
-use mathlib.Core.List.{[], _∷_, _++_}
-use Prim.Native.Nat.{_≤_, _+_, _*_, _-_}
-use native.Mathlib.Omega.{arith}
-use borrow.Author.Needs.{needs}
-use Rattle.explore.specs.States.{thread-of, threads-of}
-use Rattle.explore.specs.Slots.{threads-at}
-use Rattle.explore.proofs.Going.{none-yet}
-use Rattle.explore.proofs.Memory.{threads-snoc, no-threads, slot-whole}
 use Rattle.explore.proofs.load.Statement.{statement}
 use Rattle.explore.proofs.load.Tie as tie
+use mathlib.Core.Path.{_≡_, refl, sym, _∙_}
+use Prim.Native.Nat.{ℕ, _≤_, _<_, _+_, _*_, _-_}
+use native.Mathlib.Omega.{arith}
+use lib.ListN.{length, getD, length-set}
+use Rattle.explore.proofs.Memory.{read-more}
 
 abbrev Inv-loop : tie.InvT-loop
-Inv-loop work j base n f₀ i₀ f i = (i ≤ n) × ((f .n ≡ i) × (threads-of f ≡ threads-at work (578 * j + 2) i))
+Inv-loop work j base list₀ k₀ list k = (k ≤ 578) × ((length list ≡ 578) × ((i : ℕ) → i < k → getD work (578 * j + i) 0 ≡ getD list i 0))
 
 abbrev μ-loop : tie.MeasureT-loop
-μ-loop work j base n f₀ i₀ f i = n - i
+μ-loop work j base list₀ k₀ list k = 578 - k
 
 mul-base : tie.Need-mul-base Inv-loop μ-loop
-mul-base c = omega (arith, c .before .pre .0)
-
-shared-slice-read-n : tie.Need-shared-slice-read-n Inv-loop μ-loop
-shared-slice-read-n c = omega (arith, c .before .before .pre .0)
-
-cast-n : tie.Need-cast-n Inv-loop μ-loop
-cast-n c = omega (arith, c .before .before .pre .1)
-
-new-requires : tie.Need-new-requires Inv-loop μ-loop
-new-requires c κs = search needs
+mul-base c = omega (arith, c .pre)
 
 loop-holds : tie.Need-loop-holds Inv-loop μ-loop
-loop-holds c = (omega arith, (c .new .ensures, none-yet _ (c .new .ensures) ∙ sym (no-threads _ _)))
+loop-holds c = (omega arith, (refl, λ i b. absurd (omega arith)))
 
-add-entry-at : tie.Need-add-entry-at Inv-loop μ-loop
-add-entry-at c = omega (arith, c .before .before .before .before .before .pre .0)
+add-list : tie.Need-add-list Inv-loop μ-loop
+add-list c = omega (arith, c .before .before .pre)
 
-mul-entry-at : tie.Need-mul-entry-at Inv-loop μ-loop
-mul-entry-at c = omega (arith, c .before .before .before .before .before .pre .1)
+shared-slice-read-list : tie.Need-shared-slice-read-list Inv-loop μ-loop
+shared-slice-read-list c = omega (arith, c .before .before .before .pre)
 
-add-entry-at-2 : tie.Need-add-entry-at-2 Inv-loop μ-loop
-add-entry-at-2 c = omega (arith, c .before .before .before .before .before .pre .0, c .before .before .before .before .before .pre .1)
+array-write-list : tie.Need-array-write-list Inv-loop μ-loop
+array-write-list c = omega (arith, c .before .before .loop .inv .1 .0)
 
-entry-at-requires : tie.Need-entry-at-requires Inv-loop μ-loop
-entry-at-requires c κs = omega (arith, c .before .before .before .before .before .pre .0, c .before .before .before .before .before .pre .1)
-
-put-requires : tie.Need-put-requires Inv-loop μ-loop
-put-requires c κs = omega (arith, c .before .before .before .before .before .before .pre .1, c .before .before .loop .inv .1 .0)
-
-add-i : tie.Need-add-i Inv-loop μ-loop
-add-i c = omega (arith, c .before .before .before .before .before .before .before .pre .1)
+add-k : tie.Need-add-k Inv-loop μ-loop
+add-k c = omega arith
 
 loop-less : tie.Need-loop-less Inv-loop μ-loop
 loop-less c = omega arith
 
 loop-again : tie.Need-loop-again Inv-loop μ-loop
-loop-again c = (omega arith, (omega (arith, c .put .ensures .count, c .before .before .before .loop .inv .1 .0), c .put .ensures .list ∙ ap (λ v. v ++ (thread-of (c .before .entry-at .result) ∷ [])) (c .before .before .before .loop .inv .1 .1) ∙ ap (λ v. threads-at (c .before .before .before .before .before .before .before .args .work .now) (578 * c .before .before .before .before .before .before .before .args .j + 2) (c .before .before .before .loop .i) ++ (v ∷ [])) (c .before .entry-at .ensures) ∙ sym (threads-snoc (c .before .before .before .before .before .before .before .args .work .now) (578 * c .before .before .before .before .before .before .before .args .j + 2) (c .before .before .before .loop .i))))
+loop-again c = (omega arith, (length-set (c .before .before .loop .list) (c .before .before .loop .k) _ ∙ c .before .before .loop .inv .1 .0, read-more (c .before .before .before .args .work .now) (c .before .before .loop .list) (578 * c .before .before .before .args .j) (c .before .before .loop .k) (omega (arith, c .before .before .loop .inv .1 .0)) (c .before .before .loop .inv .1 .1)))
 
 returns : tie.Need-returns Inv-loop μ-loop
-returns c = (omega (arith, c .before .before .before .before .before .pre .1, c .before .loop .inv .1 .0), c .before .loop .inv .1 .1 ∙ slot-whole (c .before .before .before .before .before .args .work .now) (c .before .before .before .before .before .args .j) (c .before .loop .i) (omega arith))
+returns c = record { size = c .before .loop .inv .1 .0; same = λ k b. sym (c .before .loop .inv .1 .1 k (omega arith)) }
 
 pub load-spec : {M : Type 1} → statement M
 load-spec =
@@ -66,16 +47,11 @@ load-spec =
     Inv-loop
     μ-loop
     mul-base
-    shared-slice-read-n
-    cast-n
-    new-requires
     loop-holds
-    add-entry-at
-    mul-entry-at
-    add-entry-at-2
-    entry-at-requires
-    put-requires
-    add-i
+    add-list
+    shared-slice-read-list
+    array-write-list
+    add-k
     loop-less
     loop-again
     returns)

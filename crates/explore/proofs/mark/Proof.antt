@@ -1,9 +1,8 @@
 -- `explore::mark` meets its contract. Assumes nothing.
-use mathlib.Core.Path.{_≡_}
 use borrow.Author.Needs.{needs}
 use borrow.Author.Tests.{eq-eqb}
 use native.Mathlib.Omega.{arith}
-use lib.ListN.{length, set, length-set}
+use lib.ListN.{set, length-set}
 use lib.Seq.{getD-set-same, getD-set-other}
 use Rattle.explore.specs.States.{count-of}
 use Rattle.explore.proofs.Bits.{ones-le, ones-set}

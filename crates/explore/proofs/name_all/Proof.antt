@@ -1,58 +1,61 @@
 -- `explore::name_all` meets its contract. Assumes nothing.
-use mathlib.Core.Path.{_≡_, sym, ap, _∙_}
-use mathlib.Core.List.{[], _∷_, _++_, map}
-use Prim.Native.Nat.{_≤_, _+_, _-_}
-use native.Mathlib.Omega.{arith}
-use borrow.Author.Needs.{needs}
-use lib.ListN.{take}
-use Rattle.paths.specs.Registers.{index, rename}
-use Rattle.explore.specs.States.{thread-of, threads-of}
-use Rattle.explore.specs.Keys.{keys-of}
-use Rattle.explore.proofs.Bits.{unmapped}
-use Rattle.explore.proofs.Going.{none-yet}
-use Rattle.explore.proofs.Naming.{rename-more, threads-whole}
 use Rattle.explore.proofs.name_all.Statement.{statement}
 use Rattle.explore.proofs.name_all.Tie as tie
+use Prim.Native.Nat.{_≤_, _-_}
+use native.Mathlib.Omega.{arith}
+use Rattle.explore.specs.Keys.{keys-at, Named}
+use Rattle.explore.proofs.Naming.{named-none, named-more, named-end}
 
 abbrev Inv-loop : tie.InvT-loop
-Inv-loop regs s n f₀ i₀ f i = (i ≤ n) × ((f .n ≡ i) × (threads-of f ≡ rename (λ t p. index (t, p) (keys-of regs)) (map thread-of (take i (s .list)))))
+Inv-loop regs k list₀ n i₀ list i = (i ≤ n) × Named (keys-at regs 0 k) list₀ list i
 
 abbrev μ-loop : tie.MeasureT-loop
-μ-loop regs s n f₀ i₀ f i = n - i
+μ-loop regs k list₀ n i₀ list i = n - i
 
-new-requires : tie.Need-new-requires Inv-loop μ-loop
-new-requires c κs = search needs
+slice-read-n : tie.Need-slice-read-n Inv-loop μ-loop
+slice-read-n c = omega (arith, c .before .before .before .pre .1 .0)
+
+cast-n : tie.Need-cast-n Inv-loop μ-loop
+cast-n c = omega (arith, c .before .before .before .pre .1 .1)
 
 loop-holds : tie.Need-loop-holds Inv-loop μ-loop
-loop-holds c = (omega arith, (c .new .ensures, none-yet _ (c .new .ensures)))
+loop-holds c = (omega arith, named-none _ _)
 
-mul-e : tie.Need-mul-e Inv-loop μ-loop
-mul-e c = omega (arith, c .before .before .before .pre .1)
+mul-entry-at : tie.Need-mul-entry-at Inv-loop μ-loop
+mul-entry-at c = omega (arith, c .before .before .before .before .before .before .pre .1 .1)
 
-element-copy-out-e : tie.Need-element-copy-out-e Inv-loop μ-loop
-element-copy-out-e c = omega (arith, c .before .before .before .pre .1)
+add-entry-at : tie.Need-add-entry-at Inv-loop μ-loop
+add-entry-at c = omega (arith, c .before .before .before .before .before .before .pre .1 .1)
+
+entry-at-requires : tie.Need-entry-at-requires Inv-loop μ-loop
+entry-at-requires c κs = omega (arith, c .before .before .before .before .before .before .pre .1 .0, c .before .before .before .before .before .before .pre .1 .1, c .before .before .loop .inv .1 .size)
+
+mul-put-entry : tie.Need-mul-put-entry Inv-loop μ-loop
+mul-put-entry c = omega (arith, c .before .before .before .before .before .before .before .before .pre .1 .1)
+
+add-put-entry : tie.Need-add-put-entry Inv-loop μ-loop
+add-put-entry c = omega (arith, c .before .before .before .before .before .before .before .before .pre .1 .1)
 
 name-entry-requires : tie.Need-name-entry-requires Inv-loop μ-loop
-name-entry-requires c κs = c .before .before .before .before .pre .0
+name-entry-requires c κs = c .before .before .before .before .before .before .before .before .pre .0
 
-put-requires : tie.Need-put-requires Inv-loop μ-loop
-put-requires c κs = omega (arith, c .before .before .before .before .before .pre .1, c .before .before .before .loop .inv .1 .0)
+put-entry-requires : tie.Need-put-entry-requires Inv-loop μ-loop
+put-entry-requires c κs = omega (arith, c .before .before .before .before .before .before .before .before .before .pre .1 .0, c .before .before .before .before .before .before .before .before .before .pre .1 .1, c .before .before .before .before .before .loop .inv .1 .size)
 
 add-i : tie.Need-add-i Inv-loop μ-loop
-add-i c = omega (arith, c .before .before .before .before .before .before .pre .1)
+add-i c = omega (arith, c .before .before .before .before .before .before .before .before .before .before .before .before .pre .1 .1)
 
 loop-less : tie.Need-loop-less Inv-loop μ-loop
 loop-less c = omega arith
 
 loop-again : tie.Need-loop-again Inv-loop μ-loop
-loop-again c =
-    let len = unmapped _ (c .before .before .before .before .before .before .args .t2 .list) 64 (c .before .before .before .before .before .before .good .1 .0 .1 .1 .1 .0 .1 .0 .1) in
-    (omega arith, (omega (arith, c .put .ensures .count, c .before .before .before .before .loop .inv .1 .0), c .put .ensures .list ∙ ap (λ v. v ++ (thread-of (c .before .name-entry .result) ∷ [])) (c .before .before .before .before .loop .inv .1 .1) ∙ sym (rename-more _ (c .before .before .before .before .before .before .args .t2 .list) (c .before .before .before .before .loop .i) _ (omega (arith, c .before .before .before .before .before .before .pre .1)) _ (c .before .name-entry .ensures))))
+loop-again c = (omega arith, named-more _ _ _ _ (c .before .before .before .before .before .before .before .before .loop .i) _ _ (c .before .before .before .before .before .before .before .before .loop .inv .1) (c .before .before .before .before .before .entry-at .ensures) (c .before .before .before .name-entry .ensures) (c .before .before .put-entry .ensures))
+
+same-length : tie.Need-same-length Inv-loop μ-loop
+same-length c = c .before .loop .inv .1 .size
 
 returns : tie.Need-returns Inv-loop μ-loop
-returns c =
-    let e : c .before .loop .i ≡ c .before .before .before .args .t2 .n = omega arith in
-    (c .before .loop .inv .1 .0 ∙ e, c .before .loop .inv .1 .1 ∙ ap (rename (λ t p. index (t, p) (keys-of (c .before .before .before .args .regs)))) (threads-whole (c .before .before .before .args .t2) (c .before .loop .i) e))
+returns c = named-end (c .before .loop .inv .1) (omega arith)
 
 pub name-all-spec : {M : Type 1} → statement M
 name-all-spec =
@@ -60,13 +63,18 @@ name-all-spec =
     (tie.spec
     Inv-loop
     μ-loop
-    new-requires
+    slice-read-n
+    cast-n
     loop-holds
-    mul-e
-    element-copy-out-e
+    mul-entry-at
+    add-entry-at
+    entry-at-requires
+    mul-put-entry
+    add-put-entry
     name-entry-requires
-    put-requires
+    put-entry-requires
     add-i
     loop-less
     loop-again
+    same-length
     returns)

@@ -42,7 +42,7 @@ loop-less c = omega arith
 loop-again : tie.Need-loop-again Inv-loop μ-loop
 loop-again c =
     let q = length-set (c .before .before .before .args .work .now) (c .before .before .before .args .at) (c .before .before .before .args .t3 .on) in
-    (omega arith, (length-set (c .before .before .loop .work) (c .before .before .before .args .at + 1 + c .before .before .loop .t) (getD (c .before .before .before .args .t3 .had) (c .before .before .loop .t) 0) ∙ c .before .before .loop .inv .1 .0, (wrote-more (c .before .before .loop .work) (c .before .before .loop .work) (c .before .before .before .args .at) (c .before .before .loop .t) (c .before .before .before .args .t3 .had) (omega (arith, c .before .before .loop .inv .1 .0)) (c .before .before .loop .inv .1 .1 .0), else-more (c .before .before .loop .work) (set (c .before .before .before .args .work .now) (c .before .before .before .args .at) (c .before .before .before .args .t3 .on)) (c .before .before .before .args .at) (c .before .before .loop .t) (getD (c .before .before .before .args .t3 .had) (c .before .before .loop .t) 0) (c .before .before .loop .inv .1 .1 .1))))
+    (omega arith, (length-set (c .before .before .loop .work) (c .before .before .before .args .at + 1 + c .before .before .loop .t) (getD (c .before .before .before .args .t3 .had) (c .before .before .loop .t) 0) ∙ c .before .before .loop .inv .1 .0, (wrote-more (c .before .before .loop .work) (c .before .before .before .args .at + 1) (c .before .before .loop .t) (c .before .before .before .args .t3 .had) (omega (arith, c .before .before .loop .inv .1 .0)) (c .before .before .loop .inv .1 .1 .0), else-more (c .before .before .loop .work) (set (c .before .before .before .args .work .now) (c .before .before .before .args .at) (c .before .before .before .args .t3 .on)) (c .before .before .before .args .at + 1) (c .before .before .loop .t) (getD (c .before .before .before .args .t3 .had) (c .before .before .loop .t) 0) (c .before .before .loop .inv .1 .1 .1))))
 
 same-length : tie.Need-same-length Inv-loop μ-loop
 same-length c = c .before .loop .inv .1 .0 ∙ length-set (c .before .before .args .work .now) (c .before .before .args .at) (c .before .before .args .t3 .on)

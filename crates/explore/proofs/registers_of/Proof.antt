@@ -1,57 +1,63 @@
 -- `explore::registers_of` meets its contract. Assumes nothing.
-use mathlib.Core.Path.{_≡_, ap}
-use mathlib.Core.List.{[], map, foldl}
-use Prim.Native.Nat.{_≤_, _-_}
-use native.Mathlib.Omega.{arith}
-use borrow.Author.Needs.{needs}
-use lib.ListN.{take}
-use Rattle.paths.specs.Registers.{note, held-by}
-use Rattle.explore.specs.States.{thread-of}
-use Rattle.explore.specs.Keys.{keys-of}
-use Rattle.explore.proofs.Bits.{unmapped}
-use Rattle.explore.proofs.Naming.{list-over, list-on, gathered, threads-whole, no-keys}
 use Rattle.explore.proofs.registers_of.Statement.{statement}
 use Rattle.explore.proofs.registers_of.Tie as tie
+use mathlib.Core.Path.{_≡_, sym, ap, _∙_}
+use mathlib.Core.List.{[], foldl}
+use Prim.Native.Nat.{_≤_, _-_}
+use native.Mathlib.Omega.{arith}
+use lib.ListN.{length}
+use Rattle.paths.specs.Registers.{note, held-by}
+use Rattle.explore.specs.Slots.{threads-at}
+use Rattle.explore.specs.Keys.{keys-at}
+use Rattle.explore.proofs.Naming.{list-over, list-on, gathered, none-held, slot-whole}
 
 abbrev Inv-loop : tie.InvT-loop
-Inv-loop s n k₀ i₀ k i = (i ≤ n) × ((k .n ≤ 64) × (keys-of k ≡ foldl note [] (held-by (map thread-of (take i (s .list))))))
+Inv-loop list regs₀ n k₀ i₀ regs k i = (i ≤ n) × ((k ≤ 64) × ((length regs ≡ 128) × (keys-at regs 0 k ≡ foldl note [] (held-by (threads-at list 2 i)))))
 
 abbrev μ-loop : tie.MeasureT-loop
-μ-loop s n k₀ i₀ k i = n - i
+μ-loop list regs₀ n k₀ i₀ regs k i = n - i
 
-new-requires : tie.Need-new-requires Inv-loop μ-loop
-new-requires c κs = search needs
+shared-slice-read-n : tie.Need-shared-slice-read-n Inv-loop μ-loop
+shared-slice-read-n c = omega (arith, c .before .before .before .pre .0)
+
+cast-n : tie.Need-cast-n Inv-loop μ-loop
+cast-n c = omega (arith, c .before .before .before .pre .1 .0)
 
 loop-holds : tie.Need-loop-holds Inv-loop μ-loop
-loop-holds c = (omega arith, (omega (arith, c .new .ensures), no-keys _ (c .new .ensures)))
+loop-holds c = (omega arith, (omega arith, (c .before .before .before .pre .1 .1, none-held _ _)))
 
-mul-e : tie.Need-mul-e Inv-loop μ-loop
-mul-e c = omega (arith, c .before .before .before .pre)
+mul-entry-at : tie.Need-mul-entry-at Inv-loop μ-loop
+mul-entry-at c = omega (arith, c .before .before .before .before .before .before .pre .1 .0)
 
-element-copy-out-e : tie.Need-element-copy-out-e Inv-loop μ-loop
-element-copy-out-e c = omega (arith, c .before .before .before .pre)
+add-entry-at : tie.Need-add-entry-at Inv-loop μ-loop
+add-entry-at c = omega (arith, c .before .before .before .before .before .before .pre .1 .0)
+
+entry-at-requires : tie.Need-entry-at-requires Inv-loop μ-loop
+entry-at-requires c κs = omega (arith, c .before .before .before .before .before .before .pre .0, c .before .before .before .before .before .before .pre .1 .0)
 
 gather-requires : tie.Need-gather-requires Inv-loop μ-loop
-gather-requires c κs = c .before .before .loop .inv .1 .0
+gather-requires c κs = (c .before .before .before .loop .inv .1 .0, c .before .before .before .loop .inv .1 .1 .0)
+
+same-length : tie.Need-same-length Inv-loop μ-loop
+same-length c = c .before .before .before .gather .ensures .size ∙ sym (c .before .before .before .before .before .before .before .before .before .before .before .pre .1 .1)
 
 returns : tie.Need-returns Inv-loop μ-loop
-returns c =
-    let len = unmapped _ (c .before .before .before .before .before .before .args .t1 .list) 64 (c .before .before .before .before .before .before .good .0 .1 .1 .1 .0 .1 .0 .1) in
-    list-over (c .before .before .before .before .before .before .args .t1) (omega (arith, c .before .before .before .before .before .before .pre)) (c .before .before .before .before .loop .i) _ (omega arith) _ (c .before .before .before .before .loop .inv .1 .1) _ (c .before .gather .ensures) (c .if1 .taken)
+returns c = list-over _ (c .before .before .before .before .before .before .before .loop .i) _ (c .before .before .before .before .entry-at .ensures) _ (c .before .before .before .before .before .before .before .loop .inv .1 .1 .1) _ _ (c .before .before .before .gather .ensures) (omega arith) (c .if1 .taken)
 
 add-i : tie.Need-add-i Inv-loop μ-loop
-add-i c = omega (arith, c .before .before .before .before .before .before .before .pre)
+add-i c = omega (arith, c .before .before .before .before .before .before .before .before .before .before .before .pre .1 .0)
 
 loop-less : tie.Need-loop-less Inv-loop μ-loop
 loop-less c = omega arith
 
 loop-again : tie.Need-loop-again Inv-loop μ-loop
-loop-again c =
-    let len = unmapped _ (c .before .before .before .before .before .before .before .args .t1 .list) 64 (c .before .before .before .before .before .before .before .good .0 .1 .1 .1 .0 .1 .0 .1) in
-    (omega arith, list-on (c .before .before .before .before .before .before .before .args .t1) (omega (arith, c .before .before .before .before .before .before .before .pre)) (c .before .before .before .before .before .loop .i) _ (omega arith) _ (c .before .before .before .before .before .loop .inv .1 .1) _ (c .before .before .gather .ensures) (c .before .if1 .left))
+loop-again c = (omega arith, (omega arith, (c .before .before .before .gather .ensures .size, list-on _ (c .before .before .before .before .before .before .before .loop .i) _ (c .before .before .before .before .entry-at .ensures) _ (c .before .before .before .before .before .before .before .loop .inv .1 .1 .1) _ _ (c .before .before .before .gather .ensures) (c .if1 .left))))
+
+same-length-2 : tie.Need-same-length-2 Inv-loop μ-loop
+same-length-2 c = c .before .loop .inv .1 .1 .0 ∙ sym (c .before .before .before .before .before .pre .1 .1)
 
 returns-2 : tie.Need-returns-2 Inv-loop μ-loop
-returns-2 c = gathered _ _ _ _ (c .before .loop .inv .1 .0) (c .before .loop .inv .1 .1) (ap held-by (threads-whole (c .before .before .before .args .t1) (c .before .loop .i) (omega arith)))
+returns-2 c = gathered _ _ _ _ _ (c .before .loop .inv .1 .1 .0) (c .before .loop .inv .1 .0) (c .before .loop .inv .1 .1 .1) (ap held-by (slot-whole (c .before .before .before .before .before .args .list .now) (c .before .loop .i) (omega arith)))
 
 pub registers-of-spec : {M : Type 1} → statement M
 registers-of-spec =
@@ -59,13 +65,17 @@ registers-of-spec =
     (tie.spec
     Inv-loop
     μ-loop
-    new-requires
+    shared-slice-read-n
+    cast-n
     loop-holds
-    mul-e
-    element-copy-out-e
+    mul-entry-at
+    add-entry-at
+    entry-at-requires
     gather-requires
+    same-length
     returns
     add-i
     loop-less
     loop-again
+    same-length-2
     returns-2)

@@ -38,11 +38,11 @@ set-list-requires c κs = search needs
 returns-5 : tie.Need-returns-5
 returns-5 c = obeyed-sets _ _ _ _ (c .before .before .before .before .before .if1 .left) (c .before .before .before .before .if2 .left) (c .before .before .before .if4 .left) (c .before .before .if5 .taken) (c .set-list .ensures)
 
-move-list-requires : tie.Need-move-list-requires
-move-list-requires c κs = search needs
+carry-list-requires : tie.Need-carry-list-requires
+carry-list-requires c κs = search needs
 
 returns-6 : tie.Need-returns-6
-returns-6 c = obeyed-all _ _ _ _ (c .before .before .before .before .before .before .before .if1 .left) (c .before .before .before .before .before .before .if2 .left) (c .before .before .before .before .before .if4 .left) (c .before .before .before .before .if5 .left) (c .move-list .ensures)
+returns-6 c = obeyed-all _ _ _ _ (c .before .before .before .before .before .if1 .left) (c .before .before .before .before .if2 .left) (c .before .before .before .if4 .left) (c .before .before .if5 .left) (c .carry-list .ensures)
 
 pub obey-spec : {M : Type 1} → statement M
 obey-spec =
@@ -58,5 +58,5 @@ obey-spec =
     returns-4
     set-list-requires
     returns-5
-    move-list-requires
+    carry-list-requires
     returns-6)

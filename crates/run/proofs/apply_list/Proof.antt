@@ -1,108 +1,13 @@
--- `run::apply_list` meets its contract: what is left to carry out, on the bank so far, is the whole. Assumes nothing.
-use Prim.Native.Nat.{ℕ, _-_}
-use mathlib.Core.Path.{_≡_, refl, sym, ap, _∙_}
-use native.Mathlib.Omega.{arith}
+-- `run::apply_list` meets its contract. Assumes nothing.
 use borrow.Author.Needs.{needs}
-use lib.ListN.{length, getD}
-use mir.Val.{SFits}
-use lib.IntN.{pos}
-use mir.Syntax.{w16}
-use mir.ValLaws.{toZ-ofZ}
-use Rattle.ground.proofs.Places.{place-fits}
-use Rattle.card.specs.Decode.{cmdsAt}
-use Rattle.card.proofs.Laws.{move-facts, put-facts}
-use Rattle.run.specs.Carry.{carry}
-use Rattle.run.proofs.Carrying.{carry-move, carry-put, carry-stop}
 use Rattle.run.proofs.apply_list.Statement.{statement}
 use Rattle.run.proofs.apply_list.Tie as tie
 
-abbrev Inv-loop : tie.InvT-loop
-Inv-loop s at place old v cur₀ i₀ cur i = carry (cmdsAt s i) place (old .r) (cur .r) ≡ carry (cmdsAt s at) place (old .r) (old .r)
+carry-list-requires : tie.Need-carry-list-requires
+carry-list-requires c κs = search needs
 
-abbrev μ-loop : tie.MeasureT-loop
-μ-loop s at place old v cur₀ i₀ cur i = length s - i
-
-held-requires : tie.Need-held-requires Inv-loop μ-loop
-held-requires c κs = search needs
-
-loop-holds : tie.Need-loop-holds Inv-loop μ-loop
-loop-holds c = refl
-
-read-cmd-requires : tie.Need-read-cmd-requires Inv-loop μ-loop
-read-cmd-requires c κs = search needs
-
-enum-known-o : tie.Need-enum-known-o Inv-loop μ-loop
-enum-known-o c = search needs
-
-mul-x : tie.Need-mul-x Inv-loop μ-loop
-mul-x c = let f = move-facts _ _ _ _ (sym (c .before .before .before .read-cmd .ensures) ∙ c .before .o .given .1) in omega arith
-
-element-copy-out-x : tie.Need-element-copy-out-x Inv-loop μ-loop
-element-copy-out-x c = move-facts _ _ _ _ (sym (c .before .before .before .read-cmd .ensures) ∙ c .before .o .given .1) .1
-
-mul-x-2 : tie.Need-mul-x-2 Inv-loop μ-loop
-mul-x-2 c = let f = move-facts _ _ _ _ (sym (c .before .before .before .before .read-cmd .ensures) ∙ c .before .before .o .given .1) in omega arith
-
-element-set-from-x : tie.Need-element-set-from-x Inv-loop μ-loop
-element-set-from-x c = move-facts _ _ _ _ (sym (c .before .before .before .before .read-cmd .ensures) ∙ c .before .before .o .given .1) .0
-
-add-i : tie.Need-add-i Inv-loop μ-loop
-add-i c = let f = move-facts _ _ _ _ (sym (c .before .before .before .before .read-cmd .ensures) ∙ c .before .before .o .given .1) in omega arith
-
-loop-less : tie.Need-loop-less Inv-loop μ-loop
-loop-less c = let f = move-facts _ _ _ _ (sym (c .before .before .before .before .read-cmd .ensures) ∙ c .before .before .o .given .1) in omega arith
-
-loop-again : tie.Need-loop-again Inv-loop μ-loop
-loop-again c =
-    let fit : SFits w16 (getD (c .before .before .before .before .before .before .before .before .args .t4 .r) (c .before .before .o .given .0 .1 .0) (pos 0)) = search needs in
-    rw (toZ-ofZ w16 (getD (c .before .before .before .before .before .before .before .before .args .t4 .r) (c .before .before .o .given .0 .1 .0) (pos 0)) fit) (carry-move _ _ _ _ _ _ _ (sym (c .before .before .before .before .read-cmd .ensures) ∙ c .before .before .o .given .1) ∙ c .before .before .before .before .before .loop .inv)
-
-enum-known-o-2 : tie.Need-enum-known-o-2 Inv-loop μ-loop
-enum-known-o-2 c = search needs
-
-mul-v : tie.Need-mul-v Inv-loop μ-loop
-mul-v c = let f = put-facts _ _ _ (sym (c .before .before .before .read-cmd .ensures) ∙ c .before .o2 .given .1) in omega arith
-
-element-set-from-v : tie.Need-element-set-from-v Inv-loop μ-loop
-element-set-from-v c = put-facts _ _ _ (sym (c .before .before .before .read-cmd .ensures) ∙ c .before .o2 .given .1) .0
-
-add-i-2 : tie.Need-add-i-2 Inv-loop μ-loop
-add-i-2 c = let f = put-facts _ _ _ (sym (c .before .before .before .read-cmd .ensures) ∙ c .before .o2 .given .1) in omega arith
-
-loop-less-2 : tie.Need-loop-less-2 Inv-loop μ-loop
-loop-less-2 c = let f = put-facts _ _ _ (sym (c .before .before .before .read-cmd .ensures) ∙ c .before .o2 .given .1) in omega arith
-
-loop-again-2 : tie.Need-loop-again-2 Inv-loop μ-loop
-loop-again-2 c = rw (c .before .before .before .before .before .held .ensures, toZ-ofZ w16 (pos (c .before .before .before .before .before .before .before .args .place)) (place-fits (c .before .before .before .before .before .before .before .args .place) (c .before .before .before .before .before .before .before .pre))) (carry-put _ _ _ _ _ _ (sym (c .before .before .before .read-cmd .ensures) ∙ c .before .o2 .given .1) ∙ c .before .before .before .before .loop .inv)
-
-enum-told : tie.Need-enum-told Inv-loop μ-loop
-enum-told c = search needs
-
-returns : tie.Need-returns Inv-loop μ-loop
-returns c = carry-stop _ _ _ _ _ (sym (c .before .before .read-cmd .ensures) ∙ c .enum-told .given .1) ∙ c .before .before .before .loop .inv
+returns : tie.Need-returns
+returns c = c .carry-list .ensures
 
 pub apply-list-spec : {M : Type 1} → statement M
-apply-list-spec =
-    tie.close
-    (tie.spec
-    Inv-loop
-    μ-loop
-    held-requires
-    loop-holds
-    read-cmd-requires
-    enum-known-o
-    mul-x
-    element-copy-out-x
-    mul-x-2
-    element-set-from-x
-    add-i
-    loop-less
-    loop-again
-    enum-known-o-2
-    mul-v
-    element-set-from-v
-    add-i-2
-    loop-less-2
-    loop-again-2
-    enum-told
-    returns)
+apply-list-spec = tie.close (tie.spec carry-list-requires returns)

@@ -1,6 +1,5 @@
 -- `run::fields_at` meets its contract: the invariant is `Filled`. Assumes nothing.
-use Prim.Native.Nat.{ℕ, _-_}
-use mathlib.Core.Path.{_≡_, refl, sym, _∙_}
+use Prim.Native.Nat.{_-_}
 use mathlib.Core.Logic.{⊎-elim}
 use native.Mathlib.Omega.{arith}
 use borrow.Author.Needs.{needs}
@@ -14,7 +13,7 @@ use Rattle.run.proofs.fields_at.Statement.{statement}
 use Rattle.run.proofs.fields_at.Tie as tie
 
 abbrev Inv-loop : tie.InvT-loop
-Inv-loop s at bank out₀ t₀ out t = Filled s at (bank .r) out t
+Inv-loop s at bank out₀ t₀ out t = Filled s at bank out t
 
 abbrev μ-loop : tie.MeasureT-loop
 μ-loop s at bank out₀ t₀ out t = 8 - t
@@ -23,10 +22,10 @@ loop-holds : tie.Need-loop-holds Inv-loop μ-loop
 loop-holds c = filled-none _ _ _
 
 add-wide : tie.Need-add-wide Inv-loop μ-loop
-add-wide c = omega (arith, c .before .before .before .pre .room, c .before .before .before .good .0 .1)
+add-wide c = omega (arith, c .before .before .before .pre, c .before .before .before .good .0 .1)
 
 shared-slice-read-wide : tie.Need-shared-slice-read-wide Inv-loop μ-loop
-shared-slice-read-wide c = omega (arith, c .before .before .before .before .pre .room)
+shared-slice-read-wide c = omega (arith, c .before .before .before .before .pre)
 
 wide-requires : tie.Need-wide-requires Inv-loop μ-loop
 wide-requires c κs = search needs
@@ -53,9 +52,9 @@ loop-again : tie.Need-loop-again Inv-loop μ-loop
 loop-again c =
     ⊎-elim
     (λ w.
-    let fit : SFits w16 (getD (c .before .before .before .before .before .before .args .t3 .r) (c .before .wide .result) (pos 0)) = record { sfits = w .1 .given } in
-    rw (w .2, toZ-ofZ w16 (getD (c .before .before .before .before .before .before .args .t3 .r) (c .before .wide .result) (pos 0)) fit) (filled-held (c .before .before .before .before .before .before .pre) (c .before .before .before .before .loop .inv) (c .before .before .before .loop-test .taken) _ (c .before .wide .ensures) (w .0 .taken)))
-    (λ w. rw (w .1) (filled-absent (c .before .before .before .before .before .before .pre) (c .before .before .before .before .loop .inv) (c .before .before .before .loop-test .taken) _ (c .before .wide .ensures) (w .0 .left)))
+    let fit : SFits w16 (getD (c .before .before .before .before .before .before .args .bank .now) (c .before .wide .result) (pos 0)) = record { sfits = w .1 .given } in
+    rw (w .2, toZ-ofZ w16 (getD (c .before .before .before .before .before .before .args .bank .now) (c .before .wide .result) (pos 0)) fit) (filled-held (c .before .before .before .before .loop .inv) (c .before .before .before .loop-test .taken) _ (c .before .wide .ensures) (w .0 .taken)))
+    (λ w. rw (w .1) (filled-absent (c .before .before .before .before .loop .inv) (c .before .before .before .loop-test .taken) _ (c .before .wide .ensures) (w .0 .left)))
     (c .if1 .came)
 
 returns : tie.Need-returns Inv-loop μ-loop

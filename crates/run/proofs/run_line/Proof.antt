@@ -50,8 +50,8 @@ find-row-requires c κs = search needs
 add-i : tie.Need-add-i Inv-loop μ-loop
 add-i c = omega arith
 
-no-list-requires : tie.Need-no-list-requires Inv-loop μ-loop
-no-list-requires c κs = search needs
+alone-requires : tie.Need-alone-requires Inv-loop μ-loop
+alone-requires c κs = search needs
 
 apply-list-requires-2 : tie.Need-apply-list-requires-2 Inv-loop μ-loop
 apply-list-requires-2 c κs = omega (arith, c .before .before .before .before .before .before .before .before .before .before .before .before .pre .short)
@@ -70,7 +70,7 @@ loop-less-2 c = omega arith
 loop-again-2 : tie.Need-loop-again-2 Inv-loop μ-loop
 loop-again-2 c =
     let g = subst (λ (q : ℕ). Riding (c .before .before .before .before .before .before .before .before .before .before .before .before .args .s .now) (c .before .before .before .before .before .before .before .before .before .before .before .before .args .line .now) q (c .before .before .before .before .before .before .before .loop .bank .r) (c .before .before .before .before .before .before .before .loop .i)) (sym (c .before .before .before .before .before .wide .ensures)) (c .before .before .before .before .before .before .before .loop .inv) in
-    riding-next (c .before .before .before .before .before .before .before .before .before .before .before .before .pre) g _ _ _ (c .before .before .before .before .before .before .loop-test .taken) (c .before .before .before .shared-slice-known3 .given (c .before .before .before .before .before .before .before .loop .i) .fits) (c .before .before .find-row .ensures) (carry-none _ _ _ _ (c .before .no-list .ensures .none (not-false _ (c .if1 .left))))
+    riding-next (c .before .before .before .before .before .before .before .before .before .before .before .before .pre) g _ _ _ (c .before .before .before .before .before .before .loop-test .taken) (c .before .before .before .shared-slice-known3 .given (c .before .before .before .before .before .before .before .loop .i) .fits) (c .before .before .find-row .ensures) (carry-none _ _ _ _ (c .before .alone .ensures .none (not-false _ (c .if1 .left))))
 
 returns : tie.Need-returns Inv-loop μ-loop
 returns c = (riding-end (c .before .before .before .before .before .before .pre) (c .loop-test .left) (c .before .loop .inv), c .before .loop .inv .inside)
@@ -91,7 +91,7 @@ run-line-spec =
     shared-slice-read-find-row
     find-row-requires
     add-i
-    no-list-requires
+    alone-requires
     apply-list-requires-2
     loop-less
     loop-again

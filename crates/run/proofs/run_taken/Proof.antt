@@ -1,10 +1,11 @@
 -- `run::run_taken` meets its contract: the last situation and the bank tell the result. Assumes nothing.
 use Prim.Native.Nat.{ℕ, _<_}
-use mathlib.Core.Path.{_≡_, sym, ap, _∙_}
+use mathlib.Core.Path.{ap, _∙_}
 use native.Mathlib.Omega.{arith}
 use lib.ListN.{getD}
 use Rattle.card.specs.Run.{at}
 use Rattle.loader.proofs.Situated.{count-most}
+use Rattle.run.proofs.Filling.{told-fields}
 use Rattle.run.proofs.Telling.{answer-room, eight, tells-none, tells-some}
 use borrow.Author.Needs.{needs}
 use Rattle.run.proofs.run_taken.Statement.{statement}
@@ -41,12 +42,14 @@ add-fields-at : tie.Need-add-fields-at
 add-fields-at c = let h = answer-room (c .before .before .before .before .before .before .before .before .pre .ready) {q = c .before .before .before .before .wide .result} (omega (arith, c .before .before .before .before .before .run-line .ensures .1, c .before .before .before .before .wide .ensures)) in omega (arith, c .before .before .before .before .before .before .before .before .good .0 .1)
 
 fields-at-requires : tie.Need-fields-at-requires
-fields-at-requires c κs = eight (c .before .before .before .before .before .before .before .before .pre .ready) {q = c .before .before .before .before .wide .result} (omega (arith, c .before .before .before .before .before .run-line .ensures .1, c .before .before .before .before .wide .ensures))
+fields-at-requires c κs = eight (c .before .before .before .before .before .before .before .before .before .pre .ready) {q = c .before .before .before .before .before .wide .result} (omega (arith, c .before .before .before .before .before .before .run-line .ensures .1, c .before .before .before .before .before .wide .ensures)) .room
 
 returns-2 : tie.Need-returns-2
 returns-2 c =
-    tells-some (c .before .before .before .before .before .before .before .before .before .pre .ready) {q = c .before .before .before .before .before .wide .result} (omega (arith, c .before .before .before .before .before .before .run-line .ensures .1, c .before .before .before .before .before .wide .ensures)) (c .before .before .before .before .before .before .before .before .before .args .line .now)
-    (ap (λ (q : ℕ). at q (c .before .before .before .before .before .before .run-line .result .bank .r)) (c .before .before .before .before .before .wide .ensures) ∙ c .before .before .before .before .before .before .run-line .ensures .0) (c .before .before .if1 .left) _ (c .fields-at .ensures)
+    let n : c .before .before .before .before .before .before .wide .result < getD (c .before .before .before .before .before .before .before .before .before .before .args .s .now) 4 0 = omega (arith, c .before .before .before .before .before .before .before .run-line .ensures .1, c .before .before .before .before .before .before .wide .ensures) in
+    tells-some (c .before .before .before .before .before .before .before .before .before .before .pre .ready) {q = c .before .before .before .before .before .before .wide .result} n (c .before .before .before .before .before .before .before .before .before .before .args .line .now)
+    (ap (λ (q : ℕ). at q (c .before .before .before .before .before .before .before .run-line .result .bank .r)) (c .before .before .before .before .before .before .wide .ensures) ∙ c .before .before .before .before .before .before .before .run-line .ensures .0) (c .before .before .before .if1 .left) _
+    (told-fields (c .before .before .before .before .before .before .before .run-line .result .bank .r) (eight (c .before .before .before .before .before .before .before .before .before .before .pre .ready) {q = c .before .before .before .before .before .before .wide .result} n) (c .fields-at .ensures))
 
 pub run-taken-spec : {M : Type 1} → statement M
 run-taken-spec =

@@ -16,22 +16,24 @@ use Rattle.pattern.proofs.reading.sequence.Kinds as sequence-kinds
 use Rattle.pattern.proofs.reading.+alternatives+atomic+repeated+sequence.Lts-sequence as sequence-lts
 use Rattle.pattern.proofs.reading.alt_sum.Reads as alt-sum-reads
 use Rattle.pattern.proofs.reading.lone.Reads as lone-reads
-use Rattle.pattern.proofs.text.look.Reads as look-reads
+use Rattle.pattern.proofs.reading.none.Reads as none-reads
 use Rattle.pattern.proofs.reading.rep_sum.Reads as rep-sum-reads
-use Rattle.pattern.proofs.text.repeats.Reads as repeats-reads
 use Rattle.pattern.proofs.reading.seq_sum.Reads as seq-sum-reads
+use Rattle.pattern.proofs.text.look.Reads as look-reads
+use Rattle.pattern.proofs.text.repeats.Reads as repeats-reads
 use Rattle.pattern.proofs.text.stops_at.Reads as stops-at-reads
 use Rattle.pattern.proofs.reading.+alternatives+atomic+repeated+sequence.{statement}
 use Rattle.pattern.proofs.reading.+alternatives+atomic+repeated+sequence.Tie.{close}
-use Prim.Native.Nat.{_+_, _-_, _*_, _≤_}
+use Prim.Native.Nat.{_+_, _-_}
 use borrow.Author.Needs.{needs}
 use native.Mathlib.Omega.{arith}
-use mathlib.Core.Path.{_≡_, refl, sym, ap, _∙_, subst}
+use mathlib.Core.Path.{_≡_, sym, _∙_, subst}
 use mathlib.Core.Bool.{true, false}
 use lib.ListN.{length}
 use Rattle.pattern.specs.Reader.{left, stops, repeating, alts, seq, piece, atom}
+use Rattle.pattern.specs.Measured.{repSum}
 use Rattle.pattern.proofs.Laws.{byte-of}
-use Rattle.pattern.proofs.Steps.{refused, far, alts-refused, alts-alone, alts-tail-refused, alts-both, seq-empty, seq-refused, seq-tail-refused, seq-both, piece-refused, piece-again, piece-once, atom-lonely, atom-too-deep, atom-refused, atom-unclosed, atom-done}
+use Rattle.pattern.proofs.Steps.{refused, far, Passed, pass-none, pass-refused, pass-done, pass-on, none-after, forked-sum, alts-refused, alts-alone, alts-before, seq-empty, seq-refused, seq-before, piece-refused, piece-again, piece-once, atom-lonely, atom-too-deep, atom-refused, atom-unclosed, atom-done}
 
 abbrev μ-alternatives : Measures 1 alternatives-kinds.ps ℕ
 μ-alternatives κs a = left (a .0 .now) alts (a .1 .0)
@@ -77,38 +79,47 @@ abbrev sequence-below : ℕ → In 1 sequence-kinds.ps
 sequence-below t =
     and 1 sequence-kinds.ps (falls 1 sequence-kinds.ps _<_ μ-sequence t) sequence.Pre
 
-alternatives-sequence-requires : (t : ℕ) → alternatives-lts.Need-sequence-requires (sequence-below t, sequence.Post, look-reads.Asked, look-reads.Learnt, alternatives-below t, alternatives.Post, alt-sum-reads.Asked, alt-sum-reads.Learnt) (alternatives-at t) alternatives.Post
-alternatives-sequence-requires t c κs = omega arith
+abbrev alternatives-Inv-loop : alternatives-lts.InvT-loop
+alternatives-Inv-loop s at depth sum₀ i₀ sum i = Passed s alts depth at sum i
 
-alternatives-enum-known-first : (t : ℕ) → alternatives-lts.Need-enum-known-first (sequence-below t, sequence.Post, look-reads.Asked, look-reads.Learnt, alternatives-below t, alternatives.Post, alt-sum-reads.Asked, alt-sum-reads.Learnt) (alternatives-at t) alternatives.Post
-alternatives-enum-known-first t c = search needs
+abbrev alternatives-μ-loop : alternatives-lts.MeasureT-loop
+alternatives-μ-loop s at depth sum₀ i₀ sum i = length s - i
 
-alternatives-returns : (t : ℕ) → alternatives-lts.Need-returns (sequence-below t, sequence.Post, look-reads.Asked, look-reads.Learnt, alternatives-below t, alternatives.Post, alt-sum-reads.Asked, alt-sum-reads.Learnt) (alternatives-at t) alternatives.Post
-alternatives-returns t c = let a = c .before .before .before .args in let s = a .s .now in let d = a .depth in let i = a .at in let h = c .before .before .before .pre .1 .0 in let z = c .before .before .before .pre .1 .2 in alts-refused s d i h (c .before .sequence .result) (refused (c .before .sequence .result) (c .match .keys2)) (c .before .sequence .ensures)
+alternatives-none-requires : (t : ℕ) → alternatives-lts.Need-none-requires (none-reads.Asked, none-reads.Learnt, sequence-below t, sequence.Post, look-reads.Asked, look-reads.Learnt, seq-sum-reads.Asked, seq-sum-reads.Learnt, alt-sum-reads.Asked, alt-sum-reads.Learnt) (alternatives-at t) alternatives.Post alternatives-Inv-loop alternatives-μ-loop
+alternatives-none-requires t c κs = search needs
 
-alternatives-look-requires : (t : ℕ) → alternatives-lts.Need-look-requires (sequence-below t, sequence.Post, look-reads.Asked, look-reads.Learnt, alternatives-below t, alternatives.Post, alt-sum-reads.Asked, alt-sum-reads.Learnt) (alternatives-at t) alternatives.Post
+alternatives-loop-holds : (t : ℕ) → alternatives-lts.Need-loop-holds (none-reads.Asked, none-reads.Learnt, sequence-below t, sequence.Post, look-reads.Asked, look-reads.Learnt, seq-sum-reads.Asked, seq-sum-reads.Learnt, alt-sum-reads.Asked, alt-sum-reads.Learnt) (alternatives-at t) alternatives.Post alternatives-Inv-loop alternatives-μ-loop
+alternatives-loop-holds t c = pass-none _ _ _ _ _ (c .before .before .pre .1 .0) (c .none .ensures)
+
+alternatives-sequence-requires : (t : ℕ) → alternatives-lts.Need-sequence-requires (none-reads.Asked, none-reads.Learnt, sequence-below t, sequence.Post, look-reads.Asked, look-reads.Learnt, seq-sum-reads.Asked, seq-sum-reads.Learnt, alt-sum-reads.Asked, alt-sum-reads.Learnt) (alternatives-at t) alternatives.Post alternatives-Inv-loop alternatives-μ-loop
+alternatives-sequence-requires t c κs = let p = c .loop .inv in omega (arith, c .before .before .before .pre)
+
+alternatives-enum-known-one : (t : ℕ) → alternatives-lts.Need-enum-known-one (none-reads.Asked, none-reads.Learnt, sequence-below t, sequence.Post, look-reads.Asked, look-reads.Learnt, seq-sum-reads.Asked, seq-sum-reads.Learnt, alt-sum-reads.Asked, alt-sum-reads.Learnt) (alternatives-at t) alternatives.Post alternatives-Inv-loop alternatives-μ-loop
+alternatives-enum-known-one t c = search needs
+
+alternatives-returns : (t : ℕ) → alternatives-lts.Need-returns (none-reads.Asked, none-reads.Learnt, sequence-below t, sequence.Post, look-reads.Asked, look-reads.Learnt, seq-sum-reads.Asked, seq-sum-reads.Learnt, alt-sum-reads.Asked, alt-sum-reads.Learnt) (alternatives-at t) alternatives.Post alternatives-Inv-loop alternatives-μ-loop
+alternatives-returns t c = let a = c .before .before .before .before .before .args in let s = a .s .now in let d = a .depth in let j = c .before .before .loop .i in let p = c .before .before .loop .inv in let h = p .within in let z = c .before .before .before .before .before .pre .1 .2 in pass-refused p (c .before .sequence .result) (refused (c .before .sequence .result) (c .match .keys2)) (alts-refused s d j h (c .before .sequence .result) (refused (c .before .sequence .result) (c .match .keys2)) (c .before .sequence .ensures))
+
+alternatives-look-requires : (t : ℕ) → alternatives-lts.Need-look-requires (none-reads.Asked, none-reads.Learnt, sequence-below t, sequence.Post, look-reads.Asked, look-reads.Learnt, seq-sum-reads.Asked, seq-sum-reads.Learnt, alt-sum-reads.Asked, alt-sum-reads.Learnt) (alternatives-at t) alternatives.Post alternatives-Inv-loop alternatives-μ-loop
 alternatives-look-requires t c κs = search needs
 
-alternatives-returns-2 : (t : ℕ) → alternatives-lts.Need-returns-2 (sequence-below t, sequence.Post, look-reads.Asked, look-reads.Learnt, alternatives-below t, alternatives.Post, alt-sum-reads.Asked, alt-sum-reads.Learnt) (alternatives-at t) alternatives.Post
-alternatives-returns-2 t c = let a = c .before .before .before .before .before .before .before .args in let s = a .s .now in let d = a .depth in let i = a .at in let h = c .before .before .before .before .before .before .before .pre .1 .0 in let z = c .before .before .before .before .before .before .before .pre .1 .2 in let v = c .before .before .before .first .given .0 in let q = sym (c .before .before .before .first .given .1) ∙ c .before .before .before .before .before .sequence .ensures in let g = far s d i h seq (v .0) (v .1 .0) q in alts-alone s d i h (v .0) (v .1 .0) q (λ x. c .if1 .taken (c .before .look .ensures ∙ x))
+alternatives-seq-sum-requires : (t : ℕ) → alternatives-lts.Need-seq-sum-requires (none-reads.Asked, none-reads.Learnt, sequence-below t, sequence.Post, look-reads.Asked, look-reads.Learnt, seq-sum-reads.Asked, seq-sum-reads.Learnt, alt-sum-reads.Asked, alt-sum-reads.Learnt) (alternatives-at t) alternatives.Post alternatives-Inv-loop alternatives-μ-loop
+alternatives-seq-sum-requires t c κs = let a = c .before .before .before .before .before .before .before .before .before .args in let s = a .s .now in let d = a .depth in let j = c .before .before .before .before .before .before .loop .i in let p = c .before .before .before .before .before .before .loop .inv in let h = p .within in let z = c .before .before .before .before .before .before .before .before .before .pre .1 .2 in let v = c .before .before .before .one .given .0 in let q = sym (c .before .before .before .one .given .1) ∙ c .before .before .before .before .before .sequence .ensures in let g = far s d j h seq (v .0) (v .1 .0) q in (omega arith, omega arith)
 
-alternatives-add-alternatives : (t : ℕ) → alternatives-lts.Need-add-alternatives (sequence-below t, sequence.Post, look-reads.Asked, look-reads.Learnt, alternatives-below t, alternatives.Post, alt-sum-reads.Asked, alt-sum-reads.Learnt) (alternatives-at t) alternatives.Post
-alternatives-add-alternatives t c = let a = c .before .before .before .before .before .before .before .args in let s = a .s .now in let d = a .depth in let i = a .at in let h = c .before .before .before .before .before .before .before .pre .1 .0 in let z = c .before .before .before .before .before .before .before .pre .1 .2 in let v = c .before .before .before .first .given .0 in let q = sym (c .before .before .before .first .given .1) ∙ c .before .before .before .before .before .sequence .ensures in let g = far s d i h seq (v .0) (v .1 .0) q in omega (arith, g, c .before .before .before .before .before .before .before .good)
+alternatives-returns-2 : (t : ℕ) → alternatives-lts.Need-returns-2 (none-reads.Asked, none-reads.Learnt, sequence-below t, sequence.Post, look-reads.Asked, look-reads.Learnt, seq-sum-reads.Asked, seq-sum-reads.Learnt, alt-sum-reads.Asked, alt-sum-reads.Learnt) (alternatives-at t) alternatives.Post alternatives-Inv-loop alternatives-μ-loop
+alternatives-returns-2 t c = let a = c .before .before .before .before .before .before .before .before .before .before .args in let s = a .s .now in let d = a .depth in let j = c .before .before .before .before .before .before .before .loop .i in let p = c .before .before .before .before .before .before .before .loop .inv in let h = p .within in let z = c .before .before .before .before .before .before .before .before .before .before .pre .1 .2 in let v = c .before .before .before .before .one .given .0 in let q = sym (c .before .before .before .before .one .given .1) ∙ c .before .before .before .before .before .before .sequence .ensures in let g = far s d j h seq (v .0) (v .1 .0) q in pass-done p (v .0) (v .1 .0) (c .seq-sum .result) (alts-alone s d j h (v .0) (v .1 .0) q (λ x. c .before .if1 .taken (c .before .before .look .ensures ∙ x))) (c .seq-sum .ensures)
 
-alternatives-alternatives-requires : (t : ℕ) → alternatives-lts.Need-alternatives-requires (sequence-below t, sequence.Post, look-reads.Asked, look-reads.Learnt, alternatives-below t, alternatives.Post, alt-sum-reads.Asked, alt-sum-reads.Learnt) (alternatives-at t) alternatives.Post
-alternatives-alternatives-requires t c κs = let a = c .before .before .before .before .before .before .before .args in let s = a .s .now in let d = a .depth in let i = a .at in let h = c .before .before .before .before .before .before .before .pre .1 .0 in let z = c .before .before .before .before .before .before .before .pre .1 .2 in let v = c .before .before .before .first .given .0 in let q = sym (c .before .before .before .first .given .1) ∙ c .before .before .before .before .before .sequence .ensures in let g = far s d i h seq (v .0) (v .1 .0) q in let b = sym (c .before .look .ensures) ∙ c .if1 .left in let k = byte-of s (v .0) 124 (omega arith) b in omega (arith, c .before .before .before .before .before .before .before .pre)
+alternatives-alt-sum-requires : (t : ℕ) → alternatives-lts.Need-alt-sum-requires (none-reads.Asked, none-reads.Learnt, sequence-below t, sequence.Post, look-reads.Asked, look-reads.Learnt, seq-sum-reads.Asked, seq-sum-reads.Learnt, alt-sum-reads.Asked, alt-sum-reads.Learnt) (alternatives-at t) alternatives.Post alternatives-Inv-loop alternatives-μ-loop
+alternatives-alt-sum-requires t c κs = let a = c .before .before .before .before .before .before .before .before .before .args in let s = a .s .now in let d = a .depth in let j = c .before .before .before .before .before .before .loop .i in let p = c .before .before .before .before .before .before .loop .inv in let h = p .within in let z = c .before .before .before .before .before .before .before .before .before .pre .1 .2 in let v = c .before .before .before .one .given .0 in let q = sym (c .before .before .before .one .given .1) ∙ c .before .before .before .before .before .sequence .ensures in let g = far s d j h seq (v .0) (v .1 .0) q in (omega arith, omega arith)
 
-alternatives-enum-known-rest : (t : ℕ) → alternatives-lts.Need-enum-known-rest (sequence-below t, sequence.Post, look-reads.Asked, look-reads.Learnt, alternatives-below t, alternatives.Post, alt-sum-reads.Asked, alt-sum-reads.Learnt) (alternatives-at t) alternatives.Post
-alternatives-enum-known-rest t c = search needs
+alternatives-add-i : (t : ℕ) → alternatives-lts.Need-add-i (none-reads.Asked, none-reads.Learnt, sequence-below t, sequence.Post, look-reads.Asked, look-reads.Learnt, seq-sum-reads.Asked, seq-sum-reads.Learnt, alt-sum-reads.Asked, alt-sum-reads.Learnt) (alternatives-at t) alternatives.Post alternatives-Inv-loop alternatives-μ-loop
+alternatives-add-i t c = let a = c .before .before .before .before .before .before .before .before .before .before .args in let s = a .s .now in let d = a .depth in let j = c .before .before .before .before .before .before .before .loop .i in let p = c .before .before .before .before .before .before .before .loop .inv in let h = p .within in let z = c .before .before .before .before .before .before .before .before .before .before .pre .1 .2 in let v = c .before .before .before .before .one .given .0 in let q = sym (c .before .before .before .before .one .given .1) ∙ c .before .before .before .before .before .before .sequence .ensures in let g = far s d j h seq (v .0) (v .1 .0) q in omega arith
 
-alternatives-returns-3 : (t : ℕ) → alternatives-lts.Need-returns-3 (sequence-below t, sequence.Post, look-reads.Asked, look-reads.Learnt, alternatives-below t, alternatives.Post, alt-sum-reads.Asked, alt-sum-reads.Learnt) (alternatives-at t) alternatives.Post
-alternatives-returns-3 t c = let a = c .before .before .before .before .before .before .before .before .before .args in let s = a .s .now in let d = a .depth in let i = a .at in let h = c .before .before .before .before .before .before .before .before .before .pre .1 .0 in let z = c .before .before .before .before .before .before .before .before .before .pre .1 .2 in let v = c .before .before .before .before .before .first .given .0 in let q = sym (c .before .before .before .before .before .first .given .1) ∙ c .before .before .before .before .before .before .before .sequence .ensures in let g = far s d i h seq (v .0) (v .1 .0) q in let b = sym (c .before .before .before .look .ensures) ∙ c .before .before .if1 .left in let k = byte-of s (v .0) 124 (omega arith) b in alts-tail-refused s d i h (v .0) (v .1 .0) q b (c .before .alternatives .result) (refused (c .before .alternatives .result) (c .match2 .keys2)) (c .before .alternatives .ensures)
+alternatives-loop-less : (t : ℕ) → alternatives-lts.Need-loop-less (none-reads.Asked, none-reads.Learnt, sequence-below t, sequence.Post, look-reads.Asked, look-reads.Learnt, seq-sum-reads.Asked, seq-sum-reads.Learnt, alt-sum-reads.Asked, alt-sum-reads.Learnt) (alternatives-at t) alternatives.Post alternatives-Inv-loop alternatives-μ-loop
+alternatives-loop-less t c = let a = c .before .before .before .before .before .before .before .before .before .before .args in let s = a .s .now in let d = a .depth in let j = c .before .before .before .before .before .before .before .loop .i in let p = c .before .before .before .before .before .before .before .loop .inv in let h = p .within in let z = c .before .before .before .before .before .before .before .before .before .before .pre .1 .2 in let v = c .before .before .before .before .one .given .0 in let q = sym (c .before .before .before .before .one .given .1) ∙ c .before .before .before .before .before .before .sequence .ensures in let g = far s d j h seq (v .0) (v .1 .0) q in let b = sym (c .before .before .look .ensures) ∙ c .before .if1 .left in let k = byte-of s (v .0) 124 (omega arith) b in omega arith
 
-alternatives-alt-sum-requires : (t : ℕ) → alternatives-lts.Need-alt-sum-requires (sequence-below t, sequence.Post, look-reads.Asked, look-reads.Learnt, alternatives-below t, alternatives.Post, alt-sum-reads.Asked, alt-sum-reads.Learnt) (alternatives-at t) alternatives.Post
-alternatives-alt-sum-requires t c κs = let a = c .before .before .before .before .before .before .before .before .before .before .before .args in let s = a .s .now in let d = a .depth in let i = a .at in let h = c .before .before .before .before .before .before .before .before .before .before .before .pre .1 .0 in let z = c .before .before .before .before .before .before .before .before .before .before .before .pre .1 .2 in let v = c .before .before .before .before .before .before .before .first .given .0 in let q = sym (c .before .before .before .before .before .before .before .first .given .1) ∙ c .before .before .before .before .before .before .before .before .before .sequence .ensures in let g = far s d i h seq (v .0) (v .1 .0) q in let b = sym (c .before .before .before .before .before .look .ensures) ∙ c .before .before .before .before .if1 .left in let k = byte-of s (v .0) 124 (omega arith) b in let w = c .before .rest .given .0 in let q′ = sym (c .before .rest .given .1) ∙ c .before .before .before .alternatives .ensures in let g′ = far s d (v .0 + 1) (omega arith) alts (w .0) (w .1 .0) q′ in (omega arith, omega arith)
-
-alternatives-returns-4 : (t : ℕ) → alternatives-lts.Need-returns-4 (sequence-below t, sequence.Post, look-reads.Asked, look-reads.Learnt, alternatives-below t, alternatives.Post, alt-sum-reads.Asked, alt-sum-reads.Learnt) (alternatives-at t) alternatives.Post
-alternatives-returns-4 t c = let a = c .before .before .before .before .before .before .before .before .before .before .before .before .args in let s = a .s .now in let d = a .depth in let i = a .at in let h = c .before .before .before .before .before .before .before .before .before .before .before .before .pre .1 .0 in let z = c .before .before .before .before .before .before .before .before .before .before .before .before .pre .1 .2 in let v = c .before .before .before .before .before .before .before .before .first .given .0 in let q = sym (c .before .before .before .before .before .before .before .before .first .given .1) ∙ c .before .before .before .before .before .before .before .before .before .before .sequence .ensures in let g = far s d i h seq (v .0) (v .1 .0) q in let b = sym (c .before .before .before .before .before .before .look .ensures) ∙ c .before .before .before .before .before .if1 .left in let k = byte-of s (v .0) 124 (omega arith) b in let w = c .before .before .rest .given .0 in let q′ = sym (c .before .before .rest .given .1) ∙ c .before .before .before .before .alternatives .ensures in let g′ = far s d (v .0 + 1) (omega arith) alts (w .0) (w .1 .0) q′ in alts-both s d i h (v .0) (v .1 .0) q b (w .0) (w .1 .0) (c .alt-sum .result) q′ (c .alt-sum .ensures)
+alternatives-loop-again : (t : ℕ) → alternatives-lts.Need-loop-again (none-reads.Asked, none-reads.Learnt, sequence-below t, sequence.Post, look-reads.Asked, look-reads.Learnt, seq-sum-reads.Asked, seq-sum-reads.Learnt, alt-sum-reads.Asked, alt-sum-reads.Learnt) (alternatives-at t) alternatives.Post alternatives-Inv-loop alternatives-μ-loop
+alternatives-loop-again t c = let a = c .before .before .before .before .before .before .before .before .before .before .args in let s = a .s .now in let d = a .depth in let j = c .before .before .before .before .before .before .before .loop .i in let p = c .before .before .before .before .before .before .before .loop .inv in let h = p .within in let z = c .before .before .before .before .before .before .before .before .before .before .pre .1 .2 in let v = c .before .before .before .before .one .given .0 in let q = sym (c .before .before .before .before .one .given .1) ∙ c .before .before .before .before .before .before .sequence .ensures in let g = far s d j h seq (v .0) (v .1 .0) q in let b = sym (c .before .before .look .ensures) ∙ c .before .if1 .left in let k = byte-of s (v .0) 124 (omega arith) b in pass-on p (v .0 + 1) (repSum (v .1 .0)) (c .alt-sum .result) (alts-before s d j h (v .0) (v .1 .0) q b) (omega arith) (omega arith) (omega arith) (c .alt-sum .ensures ∙ forked-sum _ (v .1 .0))
 
 atomic-look-requires : (t : ℕ) → atomic-lts.Need-look-requires (look-reads.Asked, look-reads.Learnt, lone-reads.Asked, lone-reads.Learnt, alternatives-below t, alternatives.Post) (atomic-at t) atomic.Post
 atomic-look-requires t c κs = search needs
@@ -176,55 +187,64 @@ repeated-returns-2 t c = let a = c .before .before .before .before .before .befo
 repeated-returns-3 : (t : ℕ) → repeated-lts.Need-returns-3 (atomic-below t, atomic.Post, look-reads.Asked, look-reads.Learnt, repeats-reads.Asked, repeats-reads.Learnt, rep-sum-reads.Asked, rep-sum-reads.Learnt) (repeated-at t) repeated.Post
 repeated-returns-3 t c = let a = c .before .before .before .before .before .before .before .before .args in let s = a .s .now in let d = a .depth in let i = a .at in let h = c .before .before .before .before .before .before .before .before .pre .1 .0 in let z = c .before .before .before .before .before .before .before .before .pre .1 .2 in let v = c .before .before .before .before .one .given .0 in let q = sym (c .before .before .before .before .one .given .1) ∙ c .before .before .before .before .before .before .atomic .ensures in let g = far s d i h atom (v .0) (v .1 .0) q in piece-once s d i h (v .0) (v .1 .0) q (subst (λ (n : ℕ). repeating n ≡ false) (c .before .before .look .ensures) (sym (c .before .repeats .ensures) ∙ c .if1 .left))
 
-sequence-look-requires : (t : ℕ) → sequence-lts.Need-look-requires (look-reads.Asked, look-reads.Learnt, stops-at-reads.Asked, stops-at-reads.Learnt, repeated-below t, repeated.Post, sequence-below t, sequence.Post, seq-sum-reads.Asked, seq-sum-reads.Learnt) (sequence-at t) sequence.Post
+abbrev sequence-Inv-loop : sequence-lts.InvT-loop
+sequence-Inv-loop s at depth sum₀ i₀ sum i = Passed s seq depth at sum i
+
+abbrev sequence-μ-loop : sequence-lts.MeasureT-loop
+sequence-μ-loop s at depth sum₀ i₀ sum i = length s - i
+
+sequence-none-requires : (t : ℕ) → sequence-lts.Need-none-requires (none-reads.Asked, none-reads.Learnt, look-reads.Asked, look-reads.Learnt, stops-at-reads.Asked, stops-at-reads.Learnt, repeated-below t, repeated.Post, seq-sum-reads.Asked, seq-sum-reads.Learnt) (sequence-at t) sequence.Post sequence-Inv-loop sequence-μ-loop
+sequence-none-requires t c κs = search needs
+
+sequence-loop-holds : (t : ℕ) → sequence-lts.Need-loop-holds (none-reads.Asked, none-reads.Learnt, look-reads.Asked, look-reads.Learnt, stops-at-reads.Asked, stops-at-reads.Learnt, repeated-below t, repeated.Post, seq-sum-reads.Asked, seq-sum-reads.Learnt) (sequence-at t) sequence.Post sequence-Inv-loop sequence-μ-loop
+sequence-loop-holds t c = pass-none _ _ _ _ _ (c .before .before .pre .1 .0) (c .none .ensures)
+
+sequence-look-requires : (t : ℕ) → sequence-lts.Need-look-requires (none-reads.Asked, none-reads.Learnt, look-reads.Asked, look-reads.Learnt, stops-at-reads.Asked, stops-at-reads.Learnt, repeated-below t, repeated.Post, seq-sum-reads.Asked, seq-sum-reads.Learnt) (sequence-at t) sequence.Post sequence-Inv-loop sequence-μ-loop
 sequence-look-requires t c κs = search needs
 
-sequence-stops-at-requires : (t : ℕ) → sequence-lts.Need-stops-at-requires (look-reads.Asked, look-reads.Learnt, stops-at-reads.Asked, stops-at-reads.Learnt, repeated-below t, repeated.Post, sequence-below t, sequence.Post, seq-sum-reads.Asked, seq-sum-reads.Learnt) (sequence-at t) sequence.Post
+sequence-stops-at-requires : (t : ℕ) → sequence-lts.Need-stops-at-requires (none-reads.Asked, none-reads.Learnt, look-reads.Asked, look-reads.Learnt, stops-at-reads.Asked, stops-at-reads.Learnt, repeated-below t, repeated.Post, seq-sum-reads.Asked, seq-sum-reads.Learnt) (sequence-at t) sequence.Post sequence-Inv-loop sequence-μ-loop
 sequence-stops-at-requires t c κs = search needs
 
-sequence-returns : (t : ℕ) → sequence-lts.Need-returns (look-reads.Asked, look-reads.Learnt, stops-at-reads.Asked, stops-at-reads.Learnt, repeated-below t, repeated.Post, sequence-below t, sequence.Post, seq-sum-reads.Asked, seq-sum-reads.Learnt) (sequence-at t) sequence.Post
-sequence-returns t c = let a = c .before .before .before .before .args in let s = a .s .now in let d = a .depth in let i = a .at in let h = c .before .before .before .before .pre .1 .0 in let z = c .before .before .before .before .pre .1 .2 in seq-empty s d i h (subst (λ (n : ℕ). stops n ≡ true) (c .before .before .look .ensures) (sym (c .before .stops-at .ensures) ∙ c .if1 .taken))
+sequence-returns : (t : ℕ) → sequence-lts.Need-returns (none-reads.Asked, none-reads.Learnt, look-reads.Asked, look-reads.Learnt, stops-at-reads.Asked, stops-at-reads.Learnt, repeated-below t, repeated.Post, seq-sum-reads.Asked, seq-sum-reads.Learnt) (sequence-at t) sequence.Post sequence-Inv-loop sequence-μ-loop
+sequence-returns t c = let a = c .before .before .before .before .before .before .args in let s = a .s .now in let d = a .depth in let j = c .before .before .before .loop .i in let p = c .before .before .before .loop .inv in let h = p .within in let z = c .before .before .before .before .before .before .pre .1 .2 in let b = subst (λ (n : ℕ). stops n ≡ true) (c .before .before .look .ensures) (sym (c .before .stops-at .ensures) ∙ c .if1 .taken) in pass-done p j _ _ (seq-empty s d j h b) (none-after _)
 
-sequence-repeated-requires : (t : ℕ) → sequence-lts.Need-repeated-requires (look-reads.Asked, look-reads.Learnt, stops-at-reads.Asked, stops-at-reads.Learnt, repeated-below t, repeated.Post, sequence-below t, sequence.Post, seq-sum-reads.Asked, seq-sum-reads.Learnt) (sequence-at t) sequence.Post
-sequence-repeated-requires t c κs = search needs
+sequence-repeated-requires : (t : ℕ) → sequence-lts.Need-repeated-requires (none-reads.Asked, none-reads.Learnt, look-reads.Asked, look-reads.Learnt, stops-at-reads.Asked, stops-at-reads.Learnt, repeated-below t, repeated.Post, seq-sum-reads.Asked, seq-sum-reads.Learnt) (sequence-at t) sequence.Post sequence-Inv-loop sequence-μ-loop
+sequence-repeated-requires t c κs = let p = c .before .before .before .loop .inv in omega (arith, c .before .before .before .before .before .before .pre)
 
-sequence-enum-known-first : (t : ℕ) → sequence-lts.Need-enum-known-first (look-reads.Asked, look-reads.Learnt, stops-at-reads.Asked, stops-at-reads.Learnt, repeated-below t, repeated.Post, sequence-below t, sequence.Post, seq-sum-reads.Asked, seq-sum-reads.Learnt) (sequence-at t) sequence.Post
-sequence-enum-known-first t c = search needs
+sequence-enum-known-one : (t : ℕ) → sequence-lts.Need-enum-known-one (none-reads.Asked, none-reads.Learnt, look-reads.Asked, look-reads.Learnt, stops-at-reads.Asked, stops-at-reads.Learnt, repeated-below t, repeated.Post, seq-sum-reads.Asked, seq-sum-reads.Learnt) (sequence-at t) sequence.Post sequence-Inv-loop sequence-μ-loop
+sequence-enum-known-one t c = search needs
 
-sequence-returns-2 : (t : ℕ) → sequence-lts.Need-returns-2 (look-reads.Asked, look-reads.Learnt, stops-at-reads.Asked, stops-at-reads.Learnt, repeated-below t, repeated.Post, sequence-below t, sequence.Post, seq-sum-reads.Asked, seq-sum-reads.Learnt) (sequence-at t) sequence.Post
-sequence-returns-2 t c = let a = c .before .before .before .before .before .before .args in let s = a .s .now in let d = a .depth in let i = a .at in let h = c .before .before .before .before .before .before .pre .1 .0 in let z = c .before .before .before .before .before .before .pre .1 .2 in let b = subst (λ (n : ℕ). stops n ≡ false) (c .before .before .before .before .look .ensures) (sym (c .before .before .before .stops-at .ensures) ∙ c .before .before .if1 .left) in seq-refused s d i h b (c .before .repeated .result) (refused (c .before .repeated .result) (c .match .keys2)) (c .before .repeated .ensures)
+sequence-returns-2 : (t : ℕ) → sequence-lts.Need-returns-2 (none-reads.Asked, none-reads.Learnt, look-reads.Asked, look-reads.Learnt, stops-at-reads.Asked, stops-at-reads.Learnt, repeated-below t, repeated.Post, seq-sum-reads.Asked, seq-sum-reads.Learnt) (sequence-at t) sequence.Post sequence-Inv-loop sequence-μ-loop
+sequence-returns-2 t c = let a = c .before .before .before .before .before .before .before .before .args in let s = a .s .now in let d = a .depth in let j = c .before .before .before .before .before .loop .i in let p = c .before .before .before .before .before .loop .inv in let h = p .within in let z = c .before .before .before .before .before .before .before .before .pre .1 .2 in let b = subst (λ (n : ℕ). stops n ≡ false) (c .before .before .before .before .look .ensures) (sym (c .before .before .before .stops-at .ensures) ∙ c .before .before .if1 .left) in pass-refused p (c .before .repeated .result) (refused (c .before .repeated .result) (c .match .keys2)) (seq-refused s d j h b (c .before .repeated .result) (refused (c .before .repeated .result) (c .match .keys2)) (c .before .repeated .ensures))
 
-sequence-sequence-requires : (t : ℕ) → sequence-lts.Need-sequence-requires (look-reads.Asked, look-reads.Learnt, stops-at-reads.Asked, stops-at-reads.Learnt, repeated-below t, repeated.Post, sequence-below t, sequence.Post, seq-sum-reads.Asked, seq-sum-reads.Learnt) (sequence-at t) sequence.Post
-sequence-sequence-requires t c κs = let a = c .before .before .before .before .before .before .before .before .args in let s = a .s .now in let d = a .depth in let i = a .at in let h = c .before .before .before .before .before .before .before .before .pre .1 .0 in let z = c .before .before .before .before .before .before .before .before .pre .1 .2 in let v = c .before .first .given .0 in let q = sym (c .before .first .given .1) ∙ c .before .before .before .repeated .ensures in let g = far s d i h piece (v .0) (v .1 .0) q in omega (arith, c .before .before .before .before .before .before .before .before .pre)
+sequence-seq-sum-requires : (t : ℕ) → sequence-lts.Need-seq-sum-requires (none-reads.Asked, none-reads.Learnt, look-reads.Asked, look-reads.Learnt, stops-at-reads.Asked, stops-at-reads.Learnt, repeated-below t, repeated.Post, seq-sum-reads.Asked, seq-sum-reads.Learnt) (sequence-at t) sequence.Post sequence-Inv-loop sequence-μ-loop
+sequence-seq-sum-requires t c κs = let a = c .before .before .before .before .before .before .before .before .before .before .args in let s = a .s .now in let d = a .depth in let j = c .before .before .before .before .before .before .before .loop .i in let p = c .before .before .before .before .before .before .before .loop .inv in let h = p .within in let z = c .before .before .before .before .before .before .before .before .before .before .pre .1 .2 in let v = c .before .one .given .0 in let q = sym (c .before .one .given .1) ∙ c .before .before .before .repeated .ensures in let g = far s d j h piece (v .0) (v .1 .0) q in (omega arith, omega arith)
 
-sequence-enum-known-rest : (t : ℕ) → sequence-lts.Need-enum-known-rest (look-reads.Asked, look-reads.Learnt, stops-at-reads.Asked, stops-at-reads.Learnt, repeated-below t, repeated.Post, sequence-below t, sequence.Post, seq-sum-reads.Asked, seq-sum-reads.Learnt) (sequence-at t) sequence.Post
-sequence-enum-known-rest t c = search needs
+sequence-loop-less : (t : ℕ) → sequence-lts.Need-loop-less (none-reads.Asked, none-reads.Learnt, look-reads.Asked, look-reads.Learnt, stops-at-reads.Asked, stops-at-reads.Learnt, repeated-below t, repeated.Post, seq-sum-reads.Asked, seq-sum-reads.Learnt) (sequence-at t) sequence.Post sequence-Inv-loop sequence-μ-loop
+sequence-loop-less t c = let a = c .before .before .before .before .before .before .before .before .before .before .before .args in let s = a .s .now in let d = a .depth in let j = c .before .before .before .before .before .before .before .before .loop .i in let p = c .before .before .before .before .before .before .before .before .loop .inv in let h = p .within in let z = c .before .before .before .before .before .before .before .before .before .before .before .pre .1 .2 in let v = c .before .before .one .given .0 in let q = sym (c .before .before .one .given .1) ∙ c .before .before .before .before .repeated .ensures in let g = far s d j h piece (v .0) (v .1 .0) q in omega arith
 
-sequence-returns-3 : (t : ℕ) → sequence-lts.Need-returns-3 (look-reads.Asked, look-reads.Learnt, stops-at-reads.Asked, stops-at-reads.Learnt, repeated-below t, repeated.Post, sequence-below t, sequence.Post, seq-sum-reads.Asked, seq-sum-reads.Learnt) (sequence-at t) sequence.Post
-sequence-returns-3 t c = let a = c .before .before .before .before .before .before .before .before .before .before .args in let s = a .s .now in let d = a .depth in let i = a .at in let h = c .before .before .before .before .before .before .before .before .before .before .pre .1 .0 in let z = c .before .before .before .before .before .before .before .before .before .before .pre .1 .2 in let b = subst (λ (n : ℕ). stops n ≡ false) (c .before .before .before .before .before .before .before .before .look .ensures) (sym (c .before .before .before .before .before .before .before .stops-at .ensures) ∙ c .before .before .before .before .before .before .if1 .left) in let v = c .before .before .before .first .given .0 in let q = sym (c .before .before .before .first .given .1) ∙ c .before .before .before .before .before .repeated .ensures in let g = far s d i h piece (v .0) (v .1 .0) q in seq-tail-refused s d i h b (v .0) (v .1 .0) q (c .before .sequence .result) (refused (c .before .sequence .result) (c .match2 .keys2)) (c .before .sequence .ensures)
-
-sequence-seq-sum-requires : (t : ℕ) → sequence-lts.Need-seq-sum-requires (look-reads.Asked, look-reads.Learnt, stops-at-reads.Asked, stops-at-reads.Learnt, repeated-below t, repeated.Post, sequence-below t, sequence.Post, seq-sum-reads.Asked, seq-sum-reads.Learnt) (sequence-at t) sequence.Post
-sequence-seq-sum-requires t c κs = let a = c .before .before .before .before .before .before .before .before .before .before .before .before .args in let s = a .s .now in let d = a .depth in let i = a .at in let h = c .before .before .before .before .before .before .before .before .before .before .before .before .pre .1 .0 in let z = c .before .before .before .before .before .before .before .before .before .before .before .before .pre .1 .2 in let v = c .before .before .before .before .before .first .given .0 in let q = sym (c .before .before .before .before .before .first .given .1) ∙ c .before .before .before .before .before .before .before .repeated .ensures in let g = far s d i h piece (v .0) (v .1 .0) q in let w = c .before .rest .given .0 in let q′ = sym (c .before .rest .given .1) ∙ c .before .before .before .sequence .ensures in let g′ = far s d (v .0) (g .1) seq (w .0) (w .1 .0) q′ in (omega arith, omega arith)
-
-sequence-returns-4 : (t : ℕ) → sequence-lts.Need-returns-4 (look-reads.Asked, look-reads.Learnt, stops-at-reads.Asked, stops-at-reads.Learnt, repeated-below t, repeated.Post, sequence-below t, sequence.Post, seq-sum-reads.Asked, seq-sum-reads.Learnt) (sequence-at t) sequence.Post
-sequence-returns-4 t c = let a = c .before .before .before .before .before .before .before .before .before .before .before .before .before .args in let s = a .s .now in let d = a .depth in let i = a .at in let h = c .before .before .before .before .before .before .before .before .before .before .before .before .before .pre .1 .0 in let z = c .before .before .before .before .before .before .before .before .before .before .before .before .before .pre .1 .2 in let b = subst (λ (n : ℕ). stops n ≡ false) (c .before .before .before .before .before .before .before .before .before .before .before .look .ensures) (sym (c .before .before .before .before .before .before .before .before .before .before .stops-at .ensures) ∙ c .before .before .before .before .before .before .before .before .before .if1 .left) in let v = c .before .before .before .before .before .before .first .given .0 in let q = sym (c .before .before .before .before .before .before .first .given .1) ∙ c .before .before .before .before .before .before .before .before .repeated .ensures in let g = far s d i h piece (v .0) (v .1 .0) q in let w = c .before .before .rest .given .0 in let q′ = sym (c .before .before .rest .given .1) ∙ c .before .before .before .before .sequence .ensures in let g′ = far s d (v .0) (g .1) seq (w .0) (w .1 .0) q′ in seq-both s d i h b (v .0) (v .1 .0) q (w .0) (w .1 .0) (c .seq-sum .result) q′ (c .seq-sum .ensures)
+sequence-loop-again : (t : ℕ) → sequence-lts.Need-loop-again (none-reads.Asked, none-reads.Learnt, look-reads.Asked, look-reads.Learnt, stops-at-reads.Asked, stops-at-reads.Learnt, repeated-below t, repeated.Post, seq-sum-reads.Asked, seq-sum-reads.Learnt) (sequence-at t) sequence.Post sequence-Inv-loop sequence-μ-loop
+sequence-loop-again t c = let a = c .before .before .before .before .before .before .before .before .before .before .before .args in let s = a .s .now in let d = a .depth in let j = c .before .before .before .before .before .before .before .before .loop .i in let p = c .before .before .before .before .before .before .before .before .loop .inv in let h = p .within in let z = c .before .before .before .before .before .before .before .before .before .before .before .pre .1 .2 in let v = c .before .before .one .given .0 in let q = sym (c .before .before .one .given .1) ∙ c .before .before .before .before .repeated .ensures in let g = far s d j h piece (v .0) (v .1 .0) q in let b = subst (λ (n : ℕ). stops n ≡ false) (c .before .before .before .before .before .before .before .look .ensures) (sym (c .before .before .before .before .before .before .stops-at .ensures) ∙ c .before .before .before .before .before .if1 .left) in pass-on p (v .0) (v .1 .0) (c .seq-sum .result) (seq-before s d j h b (v .0) (v .1 .0) q) (omega arith) (omega arith) (omega arith) (c .seq-sum .ensures)
 
 pub +alternatives+atomic+repeated+sequence-spec : {M : Type 1} → statement M
 +alternatives+atomic+repeated+sequence-spec =
-    close μ-alternatives μ-atomic μ-repeated μ-sequence (λ t. alternatives-lts.spec (sequence-below t, sequence.Post, look-reads.Asked, look-reads.Learnt, alternatives-below t, alternatives.Post, alt-sum-reads.Asked, alt-sum-reads.Learnt)
+    close μ-alternatives μ-atomic μ-repeated μ-sequence (λ t. alternatives-lts.spec (none-reads.Asked, none-reads.Learnt, sequence-below t, sequence.Post, look-reads.Asked, look-reads.Learnt, seq-sum-reads.Asked, seq-sum-reads.Learnt, alt-sum-reads.Asked, alt-sum-reads.Learnt)
     (alternatives-at t)
     alternatives.Post
+    alternatives-Inv-loop
+    alternatives-μ-loop
+    (alternatives-none-requires t)
+    (alternatives-loop-holds t)
     (alternatives-sequence-requires t)
-    (alternatives-enum-known-first t)
+    (alternatives-enum-known-one t)
     (alternatives-returns t)
     (alternatives-look-requires t)
+    (alternatives-seq-sum-requires t)
     (alternatives-returns-2 t)
-    (alternatives-add-alternatives t)
-    (alternatives-alternatives-requires t)
-    (alternatives-enum-known-rest t)
-    (alternatives-returns-3 t)
     (alternatives-alt-sum-requires t)
-    (alternatives-returns-4 t))
+    (alternatives-add-i t)
+    (alternatives-loop-less t)
+    (alternatives-loop-again t))
     (λ t. atomic-lts.spec (look-reads.Asked, look-reads.Learnt, lone-reads.Asked, lone-reads.Learnt, alternatives-below t, alternatives.Post)
     (atomic-at t)
     atomic.Post
@@ -253,17 +273,19 @@ pub +alternatives+atomic+repeated+sequence-spec : {M : Type 1} → statement M
     (repeated-rep-sum-requires t)
     (repeated-returns-2 t)
     (repeated-returns-3 t))
-    λ t. sequence-lts.spec (look-reads.Asked, look-reads.Learnt, stops-at-reads.Asked, stops-at-reads.Learnt, repeated-below t, repeated.Post, sequence-below t, sequence.Post, seq-sum-reads.Asked, seq-sum-reads.Learnt)
+    λ t. sequence-lts.spec (none-reads.Asked, none-reads.Learnt, look-reads.Asked, look-reads.Learnt, stops-at-reads.Asked, stops-at-reads.Learnt, repeated-below t, repeated.Post, seq-sum-reads.Asked, seq-sum-reads.Learnt)
     (sequence-at t)
     sequence.Post
+    sequence-Inv-loop
+    sequence-μ-loop
+    (sequence-none-requires t)
+    (sequence-loop-holds t)
     (sequence-look-requires t)
     (sequence-stops-at-requires t)
     (sequence-returns t)
     (sequence-repeated-requires t)
-    (sequence-enum-known-first t)
+    (sequence-enum-known-one t)
     (sequence-returns-2 t)
-    (sequence-sequence-requires t)
-    (sequence-enum-known-rest t)
-    (sequence-returns-3 t)
     (sequence-seq-sum-requires t)
-    (sequence-returns-4 t)
+    (sequence-loop-less t)
+    (sequence-loop-again t)

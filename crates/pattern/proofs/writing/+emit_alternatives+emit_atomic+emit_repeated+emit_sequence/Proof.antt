@@ -16,31 +16,31 @@ use Rattle.pattern.proofs.writing.emit_sequence.Kinds as emit-sequence-
 use Rattle.pattern.proofs.writing.+emit_alternatives+emit_atomic+emit_repeated+emit_sequence.Lts-emit_sequence as emit-sequence-lts
 use Rattle.pattern.proofs.reading.alternatives.Reads as alternatives-reads
 use Rattle.pattern.proofs.reading.atomic.Reads as atomic-reads
-use Rattle.pattern.proofs.writing.emit_lone.Reads as emit-lone-reads
-use Rattle.pattern.proofs.text.look.Reads as look-reads
-use Rattle.pattern.proofs.writing.put_fork.Reads as put-fork-reads
 use Rattle.pattern.proofs.reading.repeated.Reads as repeated-reads
 use Rattle.pattern.proofs.reading.sequence.Reads as sequence-reads
-use Rattle.pattern.proofs.writing.start_at.Reads as start-at-reads
+use Rattle.pattern.proofs.text.look.Reads as look-reads
 use Rattle.pattern.proofs.text.stops_at.Reads as stops-at-reads
+use Rattle.pattern.proofs.writing.emit_lone.Reads as emit-lone-reads
+use Rattle.pattern.proofs.writing.put_fork.Reads as put-fork-reads
+use Rattle.pattern.proofs.writing.start_at.Reads as start-at-reads
 use Rattle.pattern.proofs.writing.+emit_alternatives+emit_atomic+emit_repeated+emit_sequence.{statement}
 use Rattle.pattern.proofs.writing.+emit_alternatives+emit_atomic+emit_repeated+emit_sequence.Tie.{close}
-use Prim.Native.Nat.{_+_, _-_, _*_, _≤_}
+use Prim.Native.Nat.{_+_, _-_}
 use borrow.Author.Needs.{needs}
 use native.Mathlib.Omega.{arith}
 use mathlib.Core.Path.{_≡_, refl, sym, ap, _∙_, subst}
 use mathlib.Core.Bool.{true, false}
 use lib.ListN.{length}
 use Rattle.ground.specs.Pick.{look}
-use Rattle.net.specs.Rec.{fork}
-use Rattle.net.specs.File.{rec-bytes}
+use Rattle.ground.proofs.Stores.{wrote-length}
 use Rattle.pattern.specs.Pat.{startAt}
-use Rattle.pattern.specs.Reader.{read, single, left, stops, alts, seq, piece, atom}
+use Rattle.pattern.specs.Reader.{read, left, stops, alts, seq, piece, atom}
 use Rattle.pattern.specs.Writing.{coded}
 use Rattle.pattern.proofs.Laws.{byte-of, atom-lone}
-use Rattle.pattern.proofs.Steps.{refused, inv, far, alts-refused, alts-tail-refused, seq-refused, seq-tail-refused, piece-refused, atom-too-deep, atom-refused, atom-unclosed}
+use Rattle.pattern.proofs.Steps.{refused, inv, far, alts-refused, seq-refused, piece-refused, atom-too-deep, atom-refused, atom-unclosed}
+use Rattle.pattern.proofs.EmitLoops.{Sent, sent-none, sent-whole, sent-below, seq-ends, seq-next, seq-room, seq-sent, alts-last, alts-end, alts-next, alts-fork, alts-room, alts-sent}
 use Rattle.pattern.proofs.Emit.{start-below}
-use Rattle.pattern.proofs.EmitSteps.{chained, wrote-refused, wrote-same, room-same, room-moved, alt-coded, alt-fork, alt-first, alt-second, seq-coded, seq-first, seq-second, fork-first, fork-then, star-sized, star-coded, opt-sized, opt-coded, plus-coded, plus-first, plus-fork, is-inv, alts-is-one, alts-is, seq-is-none, seq-is, piece-is-star, piece-is-plus, piece-is-opt, piece-is-one, atom-is, wrote-empty, wrote-whole, forked, below, room-number, sized-of}
+use Rattle.pattern.proofs.EmitSteps.{chained, wrote-refused, wrote-same, room-same, room-moved, fork-first, fork-then, star-sized, star-coded, opt-sized, opt-coded, plus-coded, plus-first, plus-fork, is-inv, piece-is-star, piece-is-plus, piece-is-opt, piece-is-one, atom-is, wrote-whole, forked, below, room-number, sized-of}
 use Rattle.pattern.specs.declared.reading.Read.the-variants.{Form, Deep}
 
 abbrev μ-emit-alternatives : Measures 2 emit-alternatives-kinds.ps ℕ
@@ -103,118 +103,189 @@ emit-sequence-below t =
     (falls 2 emit-sequence-kinds.ps _<_ μ-emit-sequence t)
     emit-sequence.Pre
 
-emit-alternatives-sequence-requires : (t : ℕ) → emit-alternatives-lts.Need-sequence-requires (sequence-reads.Asked, sequence-reads.Learnt, look-reads.Asked, look-reads.Learnt, emit-sequence-below t, emit-sequence.Post, alternatives-reads.Asked, alternatives-reads.Learnt, start-at-reads.Asked, start-at-reads.Learnt, put-fork-reads.Asked, put-fork-reads.Learnt, emit-alternatives-below t, emit-alternatives.Post) (emit-alternatives-at t) emit-alternatives.Post
-emit-alternatives-sequence-requires t c κs = (c .before .before .pre .1 .0, c .before .before .pre .1 .1, c .before .before .pre .1 .2)
+abbrev emit-alternatives-Inv-loop : emit-alternatives-lts.InvT-loop
+emit-alternatives-Inv-loop s at depth out₀ o n f last i₀ k₀ p₀ out i k p = Sent s alts depth at n f o out₀ last i k p out
 
-emit-alternatives-enum-known-first : (t : ℕ) → emit-alternatives-lts.Need-enum-known-first (sequence-reads.Asked, sequence-reads.Learnt, look-reads.Asked, look-reads.Learnt, emit-sequence-below t, emit-sequence.Post, alternatives-reads.Asked, alternatives-reads.Learnt, start-at-reads.Asked, start-at-reads.Learnt, put-fork-reads.Asked, put-fork-reads.Learnt, emit-alternatives-below t, emit-alternatives.Post) (emit-alternatives-at t) emit-alternatives.Post
-emit-alternatives-enum-known-first t c = search needs
+abbrev emit-alternatives-μ-loop : emit-alternatives-lts.MeasureT-loop
+emit-alternatives-μ-loop s at depth out₀ o n f last i₀ k₀ p₀ out i k p = length s - i
 
-emit-alternatives-returns : (t : ℕ) → emit-alternatives-lts.Need-returns (sequence-reads.Asked, sequence-reads.Learnt, look-reads.Asked, look-reads.Learnt, emit-sequence-below t, emit-sequence.Post, alternatives-reads.Asked, alternatives-reads.Learnt, start-at-reads.Asked, start-at-reads.Learnt, put-fork-reads.Asked, put-fork-reads.Learnt, emit-alternatives-below t, emit-alternatives.Post) (emit-alternatives-at t) emit-alternatives.Post
-emit-alternatives-returns t c =
-    let a = c .before .before .before .before .args in let s = a .s .now in let d = a .depth in let i = a .at in let h = c .before .before .before .before .pre .1 .0 in let m = c .before .before .before .before .pre .1 .3 in let zz = c .before .before .before .before .pre .1 .2 in
-    let y = refused (c .before .sequence .result) (c .match .keys2) in
-    wrote-refused (a .out .now) (a .o) (a .n) (a .f) (c .before .sequence .result) (read s alts d i) y (alts-refused s d i h (c .before .sequence .result) y (c .before .sequence .ensures))
+emit-alternatives-alternatives-requires :
+    (t : ℕ) → emit-alternatives-lts.Need-alternatives-requires (alternatives-reads.Asked, alternatives-reads.Learnt, sequence-reads.Asked, sequence-reads.Learnt, look-reads.Asked, look-reads.Learnt, emit-sequence-below t, emit-sequence.Post, start-at-reads.Asked, start-at-reads.Learnt, put-fork-reads.Asked, put-fork-reads.Learnt)
+    (emit-alternatives-at t)
+    emit-alternatives.Post
+    emit-alternatives-Inv-loop
+    emit-alternatives-μ-loop
+emit-alternatives-alternatives-requires t c κs = (c .before .before .pre .1 .0, c .before .before .pre .1 .1, c .before .before .pre .1 .2)
 
-emit-alternatives-look-requires : (t : ℕ) → emit-alternatives-lts.Need-look-requires (sequence-reads.Asked, sequence-reads.Learnt, look-reads.Asked, look-reads.Learnt, emit-sequence-below t, emit-sequence.Post, alternatives-reads.Asked, alternatives-reads.Learnt, start-at-reads.Asked, start-at-reads.Learnt, put-fork-reads.Asked, put-fork-reads.Learnt, emit-alternatives-below t, emit-alternatives.Post) (emit-alternatives-at t) emit-alternatives.Post
+emit-alternatives-enum-known-whole : (t : ℕ) → emit-alternatives-lts.Need-enum-known-whole (alternatives-reads.Asked, alternatives-reads.Learnt, sequence-reads.Asked, sequence-reads.Learnt, look-reads.Asked, look-reads.Learnt, emit-sequence-below t, emit-sequence.Post, start-at-reads.Asked, start-at-reads.Learnt, put-fork-reads.Asked, put-fork-reads.Learnt)
+    (emit-alternatives-at t)
+    emit-alternatives.Post
+    emit-alternatives-Inv-loop
+    emit-alternatives-μ-loop
+emit-alternatives-enum-known-whole t c = search needs
+
+emit-alternatives-returns : (t : ℕ) → emit-alternatives-lts.Need-returns (alternatives-reads.Asked, alternatives-reads.Learnt, sequence-reads.Asked, sequence-reads.Learnt, look-reads.Asked, look-reads.Learnt, emit-sequence-below t, emit-sequence.Post, start-at-reads.Asked, start-at-reads.Learnt, put-fork-reads.Asked, put-fork-reads.Learnt)
+    (emit-alternatives-at t)
+    emit-alternatives.Post
+    emit-alternatives-Inv-loop
+    emit-alternatives-μ-loop
+emit-alternatives-returns t c = let a = c .before .before .before .before .args in let s = a .s .now in let d = a .depth in let h = c .before .before .before .before .pre .1 .0 in let z = c .before .before .before .before .pre .1 .2 in let m = c .before .before .before .before .pre .1 .3 in wrote-refused (a .out .now) (a .o) (a .n) (a .f) (c .before .alternatives .result) (read s alts d (a .at)) (refused (c .before .alternatives .result) (c .match .keys2)) (c .before .alternatives .ensures)
+
+emit-alternatives-add-last : (t : ℕ) → emit-alternatives-lts.Need-add-last (alternatives-reads.Asked, alternatives-reads.Learnt, sequence-reads.Asked, sequence-reads.Learnt, look-reads.Asked, look-reads.Learnt, emit-sequence-below t, emit-sequence.Post, start-at-reads.Asked, start-at-reads.Learnt, put-fork-reads.Asked, put-fork-reads.Learnt)
+    (emit-alternatives-at t)
+    emit-alternatives.Post
+    emit-alternatives-Inv-loop
+    emit-alternatives-μ-loop
+emit-alternatives-add-last t c = let a = c .before .before .before .before .before .before .before .args in let s = a .s .now in let d = a .depth in let h = c .before .before .before .before .before .before .before .pre .1 .0 in let z = c .before .before .before .before .before .before .before .pre .1 .2 in let m = c .before .before .before .before .before .before .before .pre .1 .3 in let v = c .before .before .whole .given .0 in let q = sym (c .before .before .whole .given .1) ∙ c .before .before .before .before .alternatives .ensures in let w = sent-below (sent-none s alts d (a .at) (a .n) (a .f) (a .o) (a .out .now) _ (v .0) (v .1 .0) h q refl m) in omega arith
+
+emit-alternatives-loop-holds : (t : ℕ) → emit-alternatives-lts.Need-loop-holds (alternatives-reads.Asked, alternatives-reads.Learnt, sequence-reads.Asked, sequence-reads.Learnt, look-reads.Asked, look-reads.Learnt, emit-sequence-below t, emit-sequence.Post, start-at-reads.Asked, start-at-reads.Learnt, put-fork-reads.Asked, put-fork-reads.Learnt)
+    (emit-alternatives-at t)
+    emit-alternatives.Post
+    emit-alternatives-Inv-loop
+    emit-alternatives-μ-loop
+emit-alternatives-loop-holds t c = let a = c .before .before .before .before .before .before .before .args in let s = a .s .now in let d = a .depth in let h = c .before .before .before .before .before .before .before .pre .1 .0 in let z = c .before .before .before .before .before .before .before .pre .1 .2 in let m = c .before .before .before .before .before .before .before .pre .1 .3 in let v = c .before .before .whole .given .0 in let q = sym (c .before .before .whole .given .1) ∙ c .before .before .before .before .alternatives .ensures in sent-none s alts d (a .at) (a .n) (a .f) (a .o) (a .out .now) _ (v .0) (v .1 .0) h q refl m
+
+emit-alternatives-sequence-requires : (t : ℕ) → emit-alternatives-lts.Need-sequence-requires (alternatives-reads.Asked, alternatives-reads.Learnt, sequence-reads.Asked, sequence-reads.Learnt, look-reads.Asked, look-reads.Learnt, emit-sequence-below t, emit-sequence.Post, start-at-reads.Asked, start-at-reads.Learnt, put-fork-reads.Asked, put-fork-reads.Learnt)
+    (emit-alternatives-at t)
+    emit-alternatives.Post
+    emit-alternatives-Inv-loop
+    emit-alternatives-μ-loop
+emit-alternatives-sequence-requires t c κs = (c .loop .inv .within, c .before .before .before .before .before .before .before .before .pre .1 .1, c .before .before .before .before .before .before .before .before .pre .1 .2)
+
+emit-alternatives-enum-known-one : (t : ℕ) → emit-alternatives-lts.Need-enum-known-one (alternatives-reads.Asked, alternatives-reads.Learnt, sequence-reads.Asked, sequence-reads.Learnt, look-reads.Asked, look-reads.Learnt, emit-sequence-below t, emit-sequence.Post, start-at-reads.Asked, start-at-reads.Learnt, put-fork-reads.Asked, put-fork-reads.Learnt)
+    (emit-alternatives-at t)
+    emit-alternatives.Post
+    emit-alternatives-Inv-loop
+    emit-alternatives-μ-loop
+emit-alternatives-enum-known-one t c = search needs
+
+emit-alternatives-same-length : (t : ℕ) → emit-alternatives-lts.Need-same-length (alternatives-reads.Asked, alternatives-reads.Learnt, sequence-reads.Asked, sequence-reads.Learnt, look-reads.Asked, look-reads.Learnt, emit-sequence-below t, emit-sequence.Post, start-at-reads.Asked, start-at-reads.Learnt, put-fork-reads.Asked, put-fork-reads.Learnt)
+    (emit-alternatives-at t)
+    emit-alternatives.Post
+    emit-alternatives-Inv-loop
+    emit-alternatives-μ-loop
+emit-alternatives-same-length t c = let a = c .before .before .before .before .before .before .before .before .before .before .args in let s = a .s .now in let d = a .depth in let j = c .before .before .loop .i in let p = c .before .before .loop .inv in let h = p .within in let z = c .before .before .before .before .before .before .before .before .before .before .pre .1 .2 in wrote-length (p .done) (p .wrote)
+
+emit-alternatives-returns-2 : (t : ℕ) → emit-alternatives-lts.Need-returns-2 (alternatives-reads.Asked, alternatives-reads.Learnt, sequence-reads.Asked, sequence-reads.Learnt, look-reads.Asked, look-reads.Learnt, emit-sequence-below t, emit-sequence.Post, start-at-reads.Asked, start-at-reads.Learnt, put-fork-reads.Asked, put-fork-reads.Learnt)
+    (emit-alternatives-at t)
+    emit-alternatives.Post
+    emit-alternatives-Inv-loop
+    emit-alternatives-μ-loop
+emit-alternatives-returns-2 t c = let a = c .before .before .before .before .before .before .before .before .before .before .args in let s = a .s .now in let d = a .depth in let j = c .before .before .loop .i in let p = c .before .before .loop .inv in let h = p .within in let z = c .before .before .before .before .before .before .before .before .before .before .pre .1 .2 in let y = refused (c .before .sequence .result) (c .match2 .keys2) in absurd (sent-whole p (c .before .sequence .result) y (alts-refused s d j h (c .before .sequence .result) y (c .before .sequence .ensures)))
+
+emit-alternatives-look-requires : (t : ℕ) → emit-alternatives-lts.Need-look-requires (alternatives-reads.Asked, alternatives-reads.Learnt, sequence-reads.Asked, sequence-reads.Learnt, look-reads.Asked, look-reads.Learnt, emit-sequence-below t, emit-sequence.Post, start-at-reads.Asked, start-at-reads.Learnt, put-fork-reads.Asked, put-fork-reads.Learnt)
+    (emit-alternatives-at t)
+    emit-alternatives.Post
+    emit-alternatives-Inv-loop
+    emit-alternatives-μ-loop
 emit-alternatives-look-requires t c κs = search needs
 
 emit-alternatives-emit-sequence-requires :
-    (t : ℕ) → emit-alternatives-lts.Need-emit-sequence-requires (sequence-reads.Asked, sequence-reads.Learnt, look-reads.Asked, look-reads.Learnt, emit-sequence-below t, emit-sequence.Post, alternatives-reads.Asked, alternatives-reads.Learnt, start-at-reads.Asked, start-at-reads.Learnt, put-fork-reads.Asked, put-fork-reads.Learnt, emit-alternatives-below t, emit-alternatives.Post) (emit-alternatives-at t) emit-alternatives.Post
-emit-alternatives-emit-sequence-requires t c κs =
-    let a = c .before .before .before .before .before .before .before .before .before .args in let s = a .s .now in let d = a .depth in let i = a .at in let h = c .before .before .before .before .before .before .before .before .before .pre .1 .0 in let m = c .before .before .before .before .before .before .before .before .before .pre .1 .3 in let zz = c .before .before .before .before .before .before .before .before .before .pre .1 .2 in let v = c .before .before .before .before .first .given .0 in let q = sym (c .before .before .before .before .first .given .1) ∙ c .before .before .before .before .before .before .sequence .ensures in let g = far s d i h seq (v .0) (v .1 .0) q in let x₁ = is-inv (read s seq d i) (v .0) (v .1 .0) q in
-    let x = alts-is-one s d i h (v .0) (v .1 .0) q (λ z. c .before .if1 .taken (c .before .before .look .ensures ∙ z)) in
-    (omega (arith, c .before .before .before .before .before .before .before .before .before .pre .0), (h, c .before .before .before .before .before .before .before .before .before .pre .1 .1, zz, room-same (read s alts d i) (read s seq d i) (inv (read s seq d i) q .pat) (a .n) (a .f) (a .o) (length (a .out .now)) x x₁ m))
+    (t : ℕ) → emit-alternatives-lts.Need-emit-sequence-requires (alternatives-reads.Asked, alternatives-reads.Learnt, sequence-reads.Asked, sequence-reads.Learnt, look-reads.Asked, look-reads.Learnt, emit-sequence-below t, emit-sequence.Post, start-at-reads.Asked, start-at-reads.Learnt, put-fork-reads.Asked, put-fork-reads.Learnt)
+    (emit-alternatives-at t)
+    emit-alternatives.Post
+    emit-alternatives-Inv-loop
+    emit-alternatives-μ-loop
+emit-alternatives-emit-sequence-requires t c κs = let a = c .before .before .before .before .before .before .before .before .before .before .before .before .before .before .before .args in let s = a .s .now in let d = a .depth in let j = c .before .before .before .before .before .before .before .loop .i in let p = c .before .before .before .before .before .before .before .loop .inv in let h = p .within in let z = c .before .before .before .before .before .before .before .before .before .before .before .before .before .before .before .pre .1 .2 in let v = c .before .before .before .before .one .given .0 in let q = sym (c .before .before .before .before .one .given .1) ∙ c .before .before .before .before .before .before .sequence .ensures in let g = far s d j h seq (v .0) (v .1 .0) q in let b : look s (v .0) ≡ 124 → ⊥ = λ x. c .before .if1 .taken (c .before .before .look .ensures ∙ x) in (omega (arith, c .before .before .before .before .before .before .before .before .before .before .before .before .before .before .before .pre .0), (h, c .before .before .before .before .before .before .before .before .before .before .before .before .before .before .before .pre .1 .1, z, alts-last p (v .0) (v .1 .0) q b))
 
-emit-alternatives-same-length : (t : ℕ) → emit-alternatives-lts.Need-same-length (sequence-reads.Asked, sequence-reads.Learnt, look-reads.Asked, look-reads.Learnt, emit-sequence-below t, emit-sequence.Post, alternatives-reads.Asked, alternatives-reads.Learnt, start-at-reads.Asked, start-at-reads.Learnt, put-fork-reads.Asked, put-fork-reads.Learnt, emit-alternatives-below t, emit-alternatives.Post) (emit-alternatives-at t) emit-alternatives.Post
-emit-alternatives-same-length t c = search needs
+emit-alternatives-same-length-2 : (t : ℕ) → emit-alternatives-lts.Need-same-length-2 (alternatives-reads.Asked, alternatives-reads.Learnt, sequence-reads.Asked, sequence-reads.Learnt, look-reads.Asked, look-reads.Learnt, emit-sequence-below t, emit-sequence.Post, start-at-reads.Asked, start-at-reads.Learnt, put-fork-reads.Asked, put-fork-reads.Learnt)
+    (emit-alternatives-at t)
+    emit-alternatives.Post
+    emit-alternatives-Inv-loop
+    emit-alternatives-μ-loop
+emit-alternatives-same-length-2 t c = let a = c .before .before .before .before .before .before .before .before .before .before .before .before .before .before .before .before .before .before .args in let s = a .s .now in let d = a .depth in let j = c .before .before .before .before .before .before .before .before .before .before .loop .i in let p = c .before .before .before .before .before .before .before .before .before .before .loop .inv in let h = p .within in let z = c .before .before .before .before .before .before .before .before .before .before .before .before .before .before .before .before .before .before .pre .1 .2 in c .before .before .emit-sequence .kept .1 .1 .1 .0 ∙ wrote-length (p .done) (p .wrote)
 
-emit-alternatives-returns-2 : (t : ℕ) → emit-alternatives-lts.Need-returns-2 (sequence-reads.Asked, sequence-reads.Learnt, look-reads.Asked, look-reads.Learnt, emit-sequence-below t, emit-sequence.Post, alternatives-reads.Asked, alternatives-reads.Learnt, start-at-reads.Asked, start-at-reads.Learnt, put-fork-reads.Asked, put-fork-reads.Learnt, emit-alternatives-below t, emit-alternatives.Post) (emit-alternatives-at t) emit-alternatives.Post
-emit-alternatives-returns-2 t c =
-    let a = c .before .before .before .before .before .before .before .before .before .before .before .before .args in let s = a .s .now in let d = a .depth in let i = a .at in let h = c .before .before .before .before .before .before .before .before .before .before .before .before .pre .1 .0 in let m = c .before .before .before .before .before .before .before .before .before .before .before .before .pre .1 .3 in let zz = c .before .before .before .before .before .before .before .before .before .before .before .before .pre .1 .2 in let v = c .before .before .before .before .before .before .before .first .given .0 in let q = sym (c .before .before .before .before .before .before .before .first .given .1) ∙ c .before .before .before .before .before .before .before .before .before .sequence .ensures in let g = far s d i h seq (v .0) (v .1 .0) q in let x₁ = is-inv (read s seq d i) (v .0) (v .1 .0) q in
-    let x = alts-is-one s d i h (v .0) (v .1 .0) q (λ z. c .before .before .before .before .if1 .taken (c .before .before .before .before .before .look .ensures ∙ z)) in
-    wrote-same (a .out .now) _ (a .o) _ (read s alts d i) (read s seq d i) (inv (read s seq d i) q .pat) (a .n) (a .f) x x₁ (c .before .before .emit-sequence .ensures)
+emit-alternatives-returns-3 : (t : ℕ) → emit-alternatives-lts.Need-returns-3 (alternatives-reads.Asked, alternatives-reads.Learnt, sequence-reads.Asked, sequence-reads.Learnt, look-reads.Asked, look-reads.Learnt, emit-sequence-below t, emit-sequence.Post, start-at-reads.Asked, start-at-reads.Learnt, put-fork-reads.Asked, put-fork-reads.Learnt)
+    (emit-alternatives-at t)
+    emit-alternatives.Post
+    emit-alternatives-Inv-loop
+    emit-alternatives-μ-loop
+emit-alternatives-returns-3 t c = let a = c .before .before .before .before .before .before .before .before .before .before .before .before .before .before .before .before .before .before .args in let s = a .s .now in let d = a .depth in let j = c .before .before .before .before .before .before .before .before .before .before .loop .i in let p = c .before .before .before .before .before .before .before .before .before .before .loop .inv in let h = p .within in let z = c .before .before .before .before .before .before .before .before .before .before .before .before .before .before .before .before .before .before .pre .1 .2 in let v = c .before .before .before .before .before .before .before .one .given .0 in let q = sym (c .before .before .before .before .before .before .before .one .given .1) ∙ c .before .before .before .before .before .before .before .before .before .sequence .ensures in let g = far s d j h seq (v .0) (v .1 .0) q in let b : look s (v .0) ≡ 124 → ⊥ = λ x. c .before .before .before .before .if1 .taken (c .before .before .before .before .before .look .ensures ∙ x) in alts-end p (v .0) (v .1 .0) q b _ _ (c .before .before .emit-sequence .ensures)
 
-emit-alternatives-add-alternatives : (t : ℕ) → emit-alternatives-lts.Need-add-alternatives (sequence-reads.Asked, sequence-reads.Learnt, look-reads.Asked, look-reads.Learnt, emit-sequence-below t, emit-sequence.Post, alternatives-reads.Asked, alternatives-reads.Learnt, start-at-reads.Asked, start-at-reads.Learnt, put-fork-reads.Asked, put-fork-reads.Learnt, emit-alternatives-below t, emit-alternatives.Post) (emit-alternatives-at t) emit-alternatives.Post
-emit-alternatives-add-alternatives t c = let a = c .before .before .before .before .before .before .before .before .args in let s = a .s .now in let d = a .depth in let i = a .at in let h = c .before .before .before .before .before .before .before .before .pre .1 .0 in let m = c .before .before .before .before .before .before .before .before .pre .1 .3 in let zz = c .before .before .before .before .before .before .before .before .pre .1 .2 in let v = c .before .before .before .first .given .0 in let q = sym (c .before .before .before .first .given .1) ∙ c .before .before .before .before .before .sequence .ensures in let g = far s d i h seq (v .0) (v .1 .0) q in let x₁ = is-inv (read s seq d i) (v .0) (v .1 .0) q in omega (arith, g, c .before .before .before .before .before .before .before .before .good)
+emit-alternatives-add-start-at : (t : ℕ) → emit-alternatives-lts.Need-add-start-at (alternatives-reads.Asked, alternatives-reads.Learnt, sequence-reads.Asked, sequence-reads.Learnt, look-reads.Asked, look-reads.Learnt, emit-sequence-below t, emit-sequence.Post, start-at-reads.Asked, start-at-reads.Learnt, put-fork-reads.Asked, put-fork-reads.Learnt)
+    (emit-alternatives-at t)
+    emit-alternatives.Post
+    emit-alternatives-Inv-loop
+    emit-alternatives-μ-loop
+emit-alternatives-add-start-at t c = let a = c .before .before .before .before .before .before .before .before .before .before .before .before .before .before .args in let s = a .s .now in let d = a .depth in let j = c .before .before .before .before .before .before .loop .i in let p = c .before .before .before .before .before .before .loop .inv in let h = p .within in let z = c .before .before .before .before .before .before .before .before .before .before .before .before .before .before .pre .1 .2 in let v = c .before .before .before .one .given .0 in let q = sym (c .before .before .before .one .given .1) ∙ c .before .before .before .before .before .sequence .ensures in let g = far s d j h seq (v .0) (v .1 .0) q in let b = sym (c .before .look .ensures) ∙ c .if1 .left in let w = sent-below p in let u = alts-next p (v .0) (v .1 .0) q b in omega arith
 
-emit-alternatives-alternatives-requires :
-    (t : ℕ) → emit-alternatives-lts.Need-alternatives-requires (sequence-reads.Asked, sequence-reads.Learnt, look-reads.Asked, look-reads.Learnt, emit-sequence-below t, emit-sequence.Post, alternatives-reads.Asked, alternatives-reads.Learnt, start-at-reads.Asked, start-at-reads.Learnt, put-fork-reads.Asked, put-fork-reads.Learnt, emit-alternatives-below t, emit-alternatives.Post) (emit-alternatives-at t) emit-alternatives.Post
-emit-alternatives-alternatives-requires t c κs = let a = c .before .before .before .before .before .before .before .before .args in let s = a .s .now in let d = a .depth in let i = a .at in let h = c .before .before .before .before .before .before .before .before .pre .1 .0 in let m = c .before .before .before .before .before .before .before .before .pre .1 .3 in let zz = c .before .before .before .before .before .before .before .before .pre .1 .2 in let v = c .before .before .before .first .given .0 in let q = sym (c .before .before .before .first .given .1) ∙ c .before .before .before .before .before .sequence .ensures in let g = far s d i h seq (v .0) (v .1 .0) q in let x₁ = is-inv (read s seq d i) (v .0) (v .1 .0) q in let b = sym (c .before .look .ensures) ∙ c .if1 .left in let k = byte-of s (v .0) 124 (omega arith) b in (omega arith, c .before .before .before .before .before .before .before .before .pre .1 .1, zz)
-
-emit-alternatives-enum-known-rest : (t : ℕ) → emit-alternatives-lts.Need-enum-known-rest (sequence-reads.Asked, sequence-reads.Learnt, look-reads.Asked, look-reads.Learnt, emit-sequence-below t, emit-sequence.Post, alternatives-reads.Asked, alternatives-reads.Learnt, start-at-reads.Asked, start-at-reads.Learnt, put-fork-reads.Asked, put-fork-reads.Learnt, emit-alternatives-below t, emit-alternatives.Post) (emit-alternatives-at t) emit-alternatives.Post
-emit-alternatives-enum-known-rest t c = search needs
-
-emit-alternatives-returns-3 : (t : ℕ) → emit-alternatives-lts.Need-returns-3 (sequence-reads.Asked, sequence-reads.Learnt, look-reads.Asked, look-reads.Learnt, emit-sequence-below t, emit-sequence.Post, alternatives-reads.Asked, alternatives-reads.Learnt, start-at-reads.Asked, start-at-reads.Learnt, put-fork-reads.Asked, put-fork-reads.Learnt, emit-alternatives-below t, emit-alternatives.Post) (emit-alternatives-at t) emit-alternatives.Post
-emit-alternatives-returns-3 t c =
-    let a = c .before .before .before .before .before .before .before .before .before .before .args in let s = a .s .now in let d = a .depth in let i = a .at in let h = c .before .before .before .before .before .before .before .before .before .before .pre .1 .0 in let m = c .before .before .before .before .before .before .before .before .before .before .pre .1 .3 in let zz = c .before .before .before .before .before .before .before .before .before .before .pre .1 .2 in let v = c .before .before .before .before .before .first .given .0 in let q = sym (c .before .before .before .before .before .first .given .1) ∙ c .before .before .before .before .before .before .before .sequence .ensures in let g = far s d i h seq (v .0) (v .1 .0) q in let x₁ = is-inv (read s seq d i) (v .0) (v .1 .0) q in let b = sym (c .before .before .before .look .ensures) ∙ c .before .before .if1 .left in let k = byte-of s (v .0) 124 (omega arith) b in
-    let y = refused (c .before .alternatives .result) (c .match2 .keys2) in
-    wrote-refused (a .out .now) (a .o) (a .n) (a .f) (c .before .alternatives .result) (read s alts d i) y (alts-tail-refused s d i h (v .0) (v .1 .0) q b (c .before .alternatives .result) y (c .before .alternatives .ensures))
-
-emit-alternatives-add-start-at : (t : ℕ) → emit-alternatives-lts.Need-add-start-at (sequence-reads.Asked, sequence-reads.Learnt, look-reads.Asked, look-reads.Learnt, emit-sequence-below t, emit-sequence.Post, alternatives-reads.Asked, alternatives-reads.Learnt, start-at-reads.Asked, start-at-reads.Learnt, put-fork-reads.Asked, put-fork-reads.Learnt, emit-alternatives-below t, emit-alternatives.Post) (emit-alternatives-at t) emit-alternatives.Post
-emit-alternatives-add-start-at t c = let z = c .before .before .before .before .before .before .before .before .before .before .before .before .pre .1 .3 .numbers in omega arith
-
-emit-alternatives-start-at-requires : (t : ℕ) → emit-alternatives-lts.Need-start-at-requires (sequence-reads.Asked, sequence-reads.Learnt, look-reads.Asked, look-reads.Learnt, emit-sequence-below t, emit-sequence.Post, alternatives-reads.Asked, alternatives-reads.Learnt, start-at-reads.Asked, start-at-reads.Learnt, put-fork-reads.Asked, put-fork-reads.Learnt, emit-alternatives-below t, emit-alternatives.Post) (emit-alternatives-at t) emit-alternatives.Post
+emit-alternatives-start-at-requires : (t : ℕ) → emit-alternatives-lts.Need-start-at-requires (alternatives-reads.Asked, alternatives-reads.Learnt, sequence-reads.Asked, sequence-reads.Learnt, look-reads.Asked, look-reads.Learnt, emit-sequence-below t, emit-sequence.Post, start-at-reads.Asked, start-at-reads.Learnt, put-fork-reads.Asked, put-fork-reads.Learnt)
+    (emit-alternatives-at t)
+    emit-alternatives.Post
+    emit-alternatives-Inv-loop
+    emit-alternatives-μ-loop
 emit-alternatives-start-at-requires t c κs = search needs
 
-emit-alternatives-add-start-at-2 : (t : ℕ) → emit-alternatives-lts.Need-add-start-at-2 (sequence-reads.Asked, sequence-reads.Learnt, look-reads.Asked, look-reads.Learnt, emit-sequence-below t, emit-sequence.Post, alternatives-reads.Asked, alternatives-reads.Learnt, start-at-reads.Asked, start-at-reads.Learnt, put-fork-reads.Asked, put-fork-reads.Learnt, emit-alternatives-below t, emit-alternatives.Post) (emit-alternatives-at t) emit-alternatives.Post
-emit-alternatives-add-start-at-2 t c = let z = c .before .before .before .before .before .before .before .before .before .before .before .before .before .pre .1 .3 .numbers in omega arith
+emit-alternatives-add-next : (t : ℕ) → emit-alternatives-lts.Need-add-next (alternatives-reads.Asked, alternatives-reads.Learnt, sequence-reads.Asked, sequence-reads.Learnt, look-reads.Asked, look-reads.Learnt, emit-sequence-below t, emit-sequence.Post, start-at-reads.Asked, start-at-reads.Learnt, put-fork-reads.Asked, put-fork-reads.Learnt)
+    (emit-alternatives-at t)
+    emit-alternatives.Post
+    emit-alternatives-Inv-loop
+    emit-alternatives-μ-loop
+emit-alternatives-add-next t c = let a = c .before .before .before .before .before .before .before .before .before .before .before .before .before .before .before .args in let s = a .s .now in let d = a .depth in let j = c .before .before .before .before .before .before .before .loop .i in let p = c .before .before .before .before .before .before .before .loop .inv in let h = p .within in let z = c .before .before .before .before .before .before .before .before .before .before .before .before .before .before .before .pre .1 .2 in let v = c .before .before .before .before .one .given .0 in let q = sym (c .before .before .before .before .one .given .1) ∙ c .before .before .before .before .before .before .sequence .ensures in let g = far s d j h seq (v .0) (v .1 .0) q in let b = sym (c .before .before .look .ensures) ∙ c .before .if1 .left in let w = sent-below p in let u = alts-next p (v .0) (v .1 .0) q b in omega arith
 
-emit-alternatives-add-start-at-3 : (t : ℕ) → emit-alternatives-lts.Need-add-start-at-3 (sequence-reads.Asked, sequence-reads.Learnt, look-reads.Asked, look-reads.Learnt, emit-sequence-below t, emit-sequence.Post, alternatives-reads.Asked, alternatives-reads.Learnt, start-at-reads.Asked, start-at-reads.Learnt, put-fork-reads.Asked, put-fork-reads.Learnt, emit-alternatives-below t, emit-alternatives.Post) (emit-alternatives-at t) emit-alternatives.Post
-emit-alternatives-add-start-at-3 t c = let a = c .before .before .before .before .before .before .before .before .before .before .before .before .before .args in let s = a .s .now in let d = a .depth in let i = a .at in let h = c .before .before .before .before .before .before .before .before .before .before .before .before .before .pre .1 .0 in let m = c .before .before .before .before .before .before .before .before .before .before .before .before .before .pre .1 .3 in let zz = c .before .before .before .before .before .before .before .before .before .before .before .before .before .pre .1 .2 in let v = c .before .before .before .before .before .before .before .before .first .given .0 in let q = sym (c .before .before .before .before .before .before .before .before .first .given .1) ∙ c .before .before .before .before .before .before .before .before .before .before .sequence .ensures in let g = far s d i h seq (v .0) (v .1 .0) q in let x₁ = is-inv (read s seq d i) (v .0) (v .1 .0) q in let z = m .numbers in omega (arith, g, c .before .before .before .before .before .before .before .before .before .before .before .before .before .good)
+emit-alternatives-add-next-2 : (t : ℕ) → emit-alternatives-lts.Need-add-next-2 (alternatives-reads.Asked, alternatives-reads.Learnt, sequence-reads.Asked, sequence-reads.Learnt, look-reads.Asked, look-reads.Learnt, emit-sequence-below t, emit-sequence.Post, start-at-reads.Asked, start-at-reads.Learnt, put-fork-reads.Asked, put-fork-reads.Learnt)
+    (emit-alternatives-at t)
+    emit-alternatives.Post
+    emit-alternatives-Inv-loop
+    emit-alternatives-μ-loop
+emit-alternatives-add-next-2 t c = let a = c .before .before .before .before .before .before .before .before .before .before .before .before .before .before .before .args in let s = a .s .now in let d = a .depth in let j = c .before .before .before .before .before .before .before .loop .i in let p = c .before .before .before .before .before .before .before .loop .inv in let h = p .within in let z = c .before .before .before .before .before .before .before .before .before .before .before .before .before .before .before .pre .1 .2 in let v = c .before .before .before .before .one .given .0 in let q = sym (c .before .before .before .before .one .given .1) ∙ c .before .before .before .before .before .before .sequence .ensures in let g = far s d j h seq (v .0) (v .1 .0) q in let b = sym (c .before .before .look .ensures) ∙ c .before .if1 .left in let w = sent-below p in let u = alts-next p (v .0) (v .1 .0) q b in omega arith
 
-emit-alternatives-start-at-requires-2 : (t : ℕ) → emit-alternatives-lts.Need-start-at-requires-2 (sequence-reads.Asked, sequence-reads.Learnt, look-reads.Asked, look-reads.Learnt, emit-sequence-below t, emit-sequence.Post, alternatives-reads.Asked, alternatives-reads.Learnt, start-at-reads.Asked, start-at-reads.Learnt, put-fork-reads.Asked, put-fork-reads.Learnt, emit-alternatives-below t, emit-alternatives.Post) (emit-alternatives-at t) emit-alternatives.Post
+emit-alternatives-sub-start-at : (t : ℕ) → emit-alternatives-lts.Need-sub-start-at (alternatives-reads.Asked, alternatives-reads.Learnt, sequence-reads.Asked, sequence-reads.Learnt, look-reads.Asked, look-reads.Learnt, emit-sequence-below t, emit-sequence.Post, start-at-reads.Asked, start-at-reads.Learnt, put-fork-reads.Asked, put-fork-reads.Learnt)
+    (emit-alternatives-at t)
+    emit-alternatives.Post
+    emit-alternatives-Inv-loop
+    emit-alternatives-μ-loop
+emit-alternatives-sub-start-at t c = let a = c .before .before .before .before .before .before .before .before .before .before .before .before .before .before .before .args in let s = a .s .now in let d = a .depth in let j = c .before .before .before .before .before .before .before .loop .i in let p = c .before .before .before .before .before .before .before .loop .inv in let h = p .within in let z = c .before .before .before .before .before .before .before .before .before .before .before .before .before .before .before .pre .1 .2 in let v = c .before .before .before .before .one .given .0 in let q = sym (c .before .before .before .before .one .given .1) ∙ c .before .before .before .before .before .before .sequence .ensures in let g = far s d j h seq (v .0) (v .1 .0) q in let b = sym (c .before .before .look .ensures) ∙ c .before .if1 .left in alts-next p (v .0) (v .1 .0) q b
+
+emit-alternatives-start-at-requires-2 : (t : ℕ) → emit-alternatives-lts.Need-start-at-requires-2 (alternatives-reads.Asked, alternatives-reads.Learnt, sequence-reads.Asked, sequence-reads.Learnt, look-reads.Asked, look-reads.Learnt, emit-sequence-below t, emit-sequence.Post, start-at-reads.Asked, start-at-reads.Learnt, put-fork-reads.Asked, put-fork-reads.Learnt)
+    (emit-alternatives-at t)
+    emit-alternatives.Post
+    emit-alternatives-Inv-loop
+    emit-alternatives-μ-loop
 emit-alternatives-start-at-requires-2 t c κs = search needs
 
-emit-alternatives-put-fork-requires : (t : ℕ) → emit-alternatives-lts.Need-put-fork-requires (sequence-reads.Asked, sequence-reads.Learnt, look-reads.Asked, look-reads.Learnt, emit-sequence-below t, emit-sequence.Post, alternatives-reads.Asked, alternatives-reads.Learnt, start-at-reads.Asked, start-at-reads.Learnt, put-fork-reads.Asked, put-fork-reads.Learnt, emit-alternatives-below t, emit-alternatives.Post) (emit-alternatives-at t) emit-alternatives.Post
-emit-alternatives-put-fork-requires t c κs =
-    let a = c .before .before .before .before .before .before .before .before .before .before .before .before .before .before .before .args in let s = a .s .now in let d = a .depth in let i = a .at in let h = c .before .before .before .before .before .before .before .before .before .before .before .before .before .before .before .pre .1 .0 in let m = c .before .before .before .before .before .before .before .before .before .before .before .before .before .before .before .pre .1 .3 in let zz = c .before .before .before .before .before .before .before .before .before .before .before .before .before .before .before .pre .1 .2 in let v = c .before .before .before .before .before .before .before .before .before .before .first .given .0 in let q = sym (c .before .before .before .before .before .before .before .before .before .before .first .given .1) ∙ c .before .before .before .before .before .before .before .before .before .before .before .before .sequence .ensures in let g = far s d i h seq (v .0) (v .1 .0) q in let x₁ = is-inv (read s seq d i) (v .0) (v .1 .0) q in let b = sym (c .before .before .before .before .before .before .before .before .look .ensures) ∙ c .before .before .before .before .before .before .before .if1 .left in let k = byte-of s (v .0) 124 (omega arith) b in let w = c .before .before .before .before .rest .given .0 in let q′ = sym (c .before .before .before .before .rest .given .1) ∙ c .before .before .before .before .before .before .alternatives .ensures in let x₂ = is-inv (read s alts d (v .0 + 1)) (w .0) (w .1 .0) q′ in let x = alts-is s d i h (v .0) (v .1 .0) q b (w .0) (w .1 .0) q′ in
-    let y = alt-fork (read s alts d i) (read s seq d i) (read s alts d (v .0 + 1)) (inv (read s seq d i) q .pat) (inv (read s alts d (v .0 + 1)) q′ .pat) x₁ x₂ (a .n) (a .f) (v .1 .0 .size) (w .1 .0 .size) (sized-of (read s seq d i) q) (sized-of (read s alts d (v .0 + 1)) q′) x (a .o) (length (a .out .now)) m in
-    (y .0, below _ _ 256 (c .before .before .start-at .ensures) (y .1), below _ _ 256 (c .before .start-at2 .ensures) (y .2))
+emit-alternatives-put-fork-requires : (t : ℕ) → emit-alternatives-lts.Need-put-fork-requires (alternatives-reads.Asked, alternatives-reads.Learnt, sequence-reads.Asked, sequence-reads.Learnt, look-reads.Asked, look-reads.Learnt, emit-sequence-below t, emit-sequence.Post, start-at-reads.Asked, start-at-reads.Learnt, put-fork-reads.Asked, put-fork-reads.Learnt)
+    (emit-alternatives-at t)
+    emit-alternatives.Post
+    emit-alternatives-Inv-loop
+    emit-alternatives-μ-loop
+emit-alternatives-put-fork-requires t c κs = let a = c .before .before .before .before .before .before .before .before .before .before .before .before .before .before .before .before .before .args in let s = a .s .now in let d = a .depth in let j = c .before .before .before .before .before .before .before .before .before .loop .i in let p = c .before .before .before .before .before .before .before .before .before .loop .inv in let h = p .within in let z = c .before .before .before .before .before .before .before .before .before .before .before .before .before .before .before .before .before .pre .1 .2 in let v = c .before .before .before .before .before .before .one .given .0 in let q = sym (c .before .before .before .before .before .before .one .given .1) ∙ c .before .before .before .before .before .before .before .before .sequence .ensures in let g = far s d j h seq (v .0) (v .1 .0) q in let b = sym (c .before .before .before .before .look .ensures) ∙ c .before .before .before .if1 .left in alts-fork p (v .0) (v .1 .0) q b _ _ (c .before .before .start-at .ensures) (c .before .start-at2 .ensures)
 
-emit-alternatives-add-emit-sequence : (t : ℕ) → emit-alternatives-lts.Need-add-emit-sequence (sequence-reads.Asked, sequence-reads.Learnt, look-reads.Asked, look-reads.Learnt, emit-sequence-below t, emit-sequence.Post, alternatives-reads.Asked, alternatives-reads.Learnt, start-at-reads.Asked, start-at-reads.Learnt, put-fork-reads.Asked, put-fork-reads.Learnt, emit-alternatives-below t, emit-alternatives.Post) (emit-alternatives-at t) emit-alternatives.Post
-emit-alternatives-add-emit-sequence t c = let z = c .before .before .before .before .before .before .before .before .before .before .before .before .before .before .before .before .before .before .before .pre .1 .3 .numbers in omega arith
+emit-alternatives-add-emit-sequence : (t : ℕ) → emit-alternatives-lts.Need-add-emit-sequence (alternatives-reads.Asked, alternatives-reads.Learnt, sequence-reads.Asked, sequence-reads.Learnt, look-reads.Asked, look-reads.Learnt, emit-sequence-below t, emit-sequence.Post, start-at-reads.Asked, start-at-reads.Learnt, put-fork-reads.Asked, put-fork-reads.Learnt)
+    (emit-alternatives-at t)
+    emit-alternatives.Post
+    emit-alternatives-Inv-loop
+    emit-alternatives-μ-loop
+emit-alternatives-add-emit-sequence t c = let a = c .before .before .before .before .before .before .before .before .before .before .before .before .before .before .before .before .before .before .before .before .before .args in let s = a .s .now in let d = a .depth in let j = c .before .before .before .before .before .before .before .before .before .before .before .before .before .loop .i in let p = c .before .before .before .before .before .before .before .before .before .before .before .before .before .loop .inv in let h = p .within in let z = c .before .before .before .before .before .before .before .before .before .before .before .before .before .before .before .before .before .before .before .before .before .pre .1 .2 in let v = c .before .before .before .before .before .before .before .before .before .before .one .given .0 in let q = sym (c .before .before .before .before .before .before .before .before .before .before .one .given .1) ∙ c .before .before .before .before .before .before .before .before .before .before .before .before .sequence .ensures in let g = far s d j h seq (v .0) (v .1 .0) q in let b = sym (c .before .before .before .before .before .before .before .before .look .ensures) ∙ c .before .before .before .before .before .before .before .if1 .left in let w = sent-below p in let u = alts-next p (v .0) (v .1 .0) q b in omega arith
 
 emit-alternatives-emit-sequence-requires-2 :
-    (t : ℕ) → emit-alternatives-lts.Need-emit-sequence-requires-2 (sequence-reads.Asked, sequence-reads.Learnt, look-reads.Asked, look-reads.Learnt, emit-sequence-below t, emit-sequence.Post, alternatives-reads.Asked, alternatives-reads.Learnt, start-at-reads.Asked, start-at-reads.Learnt, put-fork-reads.Asked, put-fork-reads.Learnt, emit-alternatives-below t, emit-alternatives.Post) (emit-alternatives-at t) emit-alternatives.Post
-emit-alternatives-emit-sequence-requires-2 t c κs =
-    let a = c .before .before .before .before .before .before .before .before .before .before .before .before .before .before .before .before .before .before .before .args in let s = a .s .now in let d = a .depth in let i = a .at in let h = c .before .before .before .before .before .before .before .before .before .before .before .before .before .before .before .before .before .before .before .pre .1 .0 in let m = c .before .before .before .before .before .before .before .before .before .before .before .before .before .before .before .before .before .before .before .pre .1 .3 in let zz = c .before .before .before .before .before .before .before .before .before .before .before .before .before .before .before .before .before .before .before .pre .1 .2 in let v = c .before .before .before .before .before .before .before .before .before .before .before .before .before .before .first .given .0 in let q = sym (c .before .before .before .before .before .before .before .before .before .before .before .before .before .before .first .given .1) ∙ c .before .before .before .before .before .before .before .before .before .before .before .before .before .before .before .before .sequence .ensures in let g = far s d i h seq (v .0) (v .1 .0) q in let x₁ = is-inv (read s seq d i) (v .0) (v .1 .0) q in let b = sym (c .before .before .before .before .before .before .before .before .before .before .before .before .look .ensures) ∙ c .before .before .before .before .before .before .before .before .before .before .before .if1 .left in let k = byte-of s (v .0) 124 (omega arith) b in let w = c .before .before .before .before .before .before .before .before .rest .given .0 in let q′ = sym (c .before .before .before .before .before .before .before .before .rest .given .1) ∙ c .before .before .before .before .before .before .before .before .before .before .alternatives .ensures in let x₂ = is-inv (read s alts d (v .0 + 1)) (w .0) (w .1 .0) q′ in let x = alts-is s d i h (v .0) (v .1 .0) q b (w .0) (w .1 .0) q′ in
-    (omega (arith, c .before .before .before .before .before .before .before .before .before .before .before .before .before .before .before .before .before .before .before .pre .0), (h, c .before .before .before .before .before .before .before .before .before .before .before .before .before .before .before .before .before .before .before .pre .1 .1, zz, room-moved (read s seq d i) (a .n + 1) (a .f) (a .o + 3) _ (length (a .out .now)) _ (sym (c .before .before .before .put-fork .ensures .on)) (sym (c .before .before .before .put-fork .kept .0)) (alt-first (read s alts d i) (read s seq d i) (read s alts d (v .0 + 1)) (inv (read s seq d i) q .pat) (inv (read s alts d (v .0 + 1)) q′ .pat) x₁ x₂ (a .n) (a .f) (v .1 .0 .size) (w .1 .0 .size) (sized-of (read s seq d i) q) (sized-of (read s alts d (v .0 + 1)) q′) x (a .o) (length (a .out .now)) m)))
+    (t : ℕ) → emit-alternatives-lts.Need-emit-sequence-requires-2 (alternatives-reads.Asked, alternatives-reads.Learnt, sequence-reads.Asked, sequence-reads.Learnt, look-reads.Asked, look-reads.Learnt, emit-sequence-below t, emit-sequence.Post, start-at-reads.Asked, start-at-reads.Learnt, put-fork-reads.Asked, put-fork-reads.Learnt)
+    (emit-alternatives-at t)
+    emit-alternatives.Post
+    emit-alternatives-Inv-loop
+    emit-alternatives-μ-loop
+emit-alternatives-emit-sequence-requires-2 t c κs = let a = c .before .before .before .before .before .before .before .before .before .before .before .before .before .before .before .before .before .before .before .before .before .args in let s = a .s .now in let d = a .depth in let j = c .before .before .before .before .before .before .before .before .before .before .before .before .before .loop .i in let p = c .before .before .before .before .before .before .before .before .before .before .before .before .before .loop .inv in let h = p .within in let z = c .before .before .before .before .before .before .before .before .before .before .before .before .before .before .before .before .before .before .before .before .before .pre .1 .2 in let v = c .before .before .before .before .before .before .before .before .before .before .one .given .0 in let q = sym (c .before .before .before .before .before .before .before .before .before .before .one .given .1) ∙ c .before .before .before .before .before .before .before .before .before .before .before .before .sequence .ensures in let g = far s d j h seq (v .0) (v .1 .0) q in let b = sym (c .before .before .before .before .before .before .before .before .look .ensures) ∙ c .before .before .before .before .before .before .before .if1 .left in (omega (arith, c .before .before .before .before .before .before .before .before .before .before .before .before .before .before .before .before .before .before .before .before .before .pre .0), (h, c .before .before .before .before .before .before .before .before .before .before .before .before .before .before .before .before .before .before .before .before .before .pre .1 .1, z, alts-room p (v .0) (v .1 .0) q b _ _ (c .before .before .before .before .before .before .start-at .ensures) (c .before .before .before .before .before .start-at2 .ensures) _ _ (c .before .before .before .put-fork .ensures)))
 
-emit-alternatives-add-emit-alternatives :
-    (t : ℕ) → emit-alternatives-lts.Need-add-emit-alternatives (sequence-reads.Asked, sequence-reads.Learnt, look-reads.Asked, look-reads.Learnt, emit-sequence-below t, emit-sequence.Post, alternatives-reads.Asked, alternatives-reads.Learnt, start-at-reads.Asked, start-at-reads.Learnt, put-fork-reads.Asked, put-fork-reads.Learnt, emit-alternatives-below t, emit-alternatives.Post) (emit-alternatives-at t) emit-alternatives.Post
-emit-alternatives-add-emit-alternatives t c = let a = c .before .before .before .before .before .before .before .before .before .before .before .before .before .before .before .before .before .before .before .before .before .before .args in let s = a .s .now in let d = a .depth in let i = a .at in let h = c .before .before .before .before .before .before .before .before .before .before .before .before .before .before .before .before .before .before .before .before .before .before .pre .1 .0 in let m = c .before .before .before .before .before .before .before .before .before .before .before .before .before .before .before .before .before .before .before .before .before .before .pre .1 .3 in let zz = c .before .before .before .before .before .before .before .before .before .before .before .before .before .before .before .before .before .before .before .before .before .before .pre .1 .2 in let v = c .before .before .before .before .before .before .before .before .before .before .before .before .before .before .before .before .before .first .given .0 in let q = sym (c .before .before .before .before .before .before .before .before .before .before .before .before .before .before .before .before .before .first .given .1) ∙ c .before .before .before .before .before .before .before .before .before .before .before .before .before .before .before .before .before .before .before .sequence .ensures in let g = far s d i h seq (v .0) (v .1 .0) q in let x₁ = is-inv (read s seq d i) (v .0) (v .1 .0) q in omega (arith, g, c .before .before .before .before .before .before .before .before .before .before .before .before .before .before .before .before .before .before .before .before .before .before .good)
+emit-alternatives-add-i : (t : ℕ) → emit-alternatives-lts.Need-add-i (alternatives-reads.Asked, alternatives-reads.Learnt, sequence-reads.Asked, sequence-reads.Learnt, look-reads.Asked, look-reads.Learnt, emit-sequence-below t, emit-sequence.Post, start-at-reads.Asked, start-at-reads.Learnt, put-fork-reads.Asked, put-fork-reads.Learnt)
+    (emit-alternatives-at t)
+    emit-alternatives.Post
+    emit-alternatives-Inv-loop
+    emit-alternatives-μ-loop
+emit-alternatives-add-i t c = let a = c .before .before .before .before .before .before .before .before .before .before .before .before .before .before .before .before .before .before .before .before .before .before .before .before .args in let s = a .s .now in let d = a .depth in let j = c .before .before .before .before .before .before .before .before .before .before .before .before .before .before .before .before .loop .i in let p = c .before .before .before .before .before .before .before .before .before .before .before .before .before .before .before .before .loop .inv in let h = p .within in let z = c .before .before .before .before .before .before .before .before .before .before .before .before .before .before .before .before .before .before .before .before .before .before .before .before .pre .1 .2 in let v = c .before .before .before .before .before .before .before .before .before .before .before .before .before .one .given .0 in let q = sym (c .before .before .before .before .before .before .before .before .before .before .before .before .before .one .given .1) ∙ c .before .before .before .before .before .before .before .before .before .before .before .before .before .before .before .sequence .ensures in let g = far s d j h seq (v .0) (v .1 .0) q in omega arith
 
-emit-alternatives-add-emit-alternatives-2 :
-    (t : ℕ) → emit-alternatives-lts.Need-add-emit-alternatives-2 (sequence-reads.Asked, sequence-reads.Learnt, look-reads.Asked, look-reads.Learnt, emit-sequence-below t, emit-sequence.Post, alternatives-reads.Asked, alternatives-reads.Learnt, start-at-reads.Asked, start-at-reads.Learnt, put-fork-reads.Asked, put-fork-reads.Learnt, emit-alternatives-below t, emit-alternatives.Post) (emit-alternatives-at t) emit-alternatives.Post
-emit-alternatives-add-emit-alternatives-2 t c = let z = c .before .before .before .before .before .before .before .before .before .before .before .before .before .before .before .before .before .before .before .before .before .before .before .pre .1 .3 .numbers in omega arith
+emit-alternatives-loop-less : (t : ℕ) → emit-alternatives-lts.Need-loop-less (alternatives-reads.Asked, alternatives-reads.Learnt, sequence-reads.Asked, sequence-reads.Learnt, look-reads.Asked, look-reads.Learnt, emit-sequence-below t, emit-sequence.Post, start-at-reads.Asked, start-at-reads.Learnt, put-fork-reads.Asked, put-fork-reads.Learnt)
+    (emit-alternatives-at t)
+    emit-alternatives.Post
+    emit-alternatives-Inv-loop
+    emit-alternatives-μ-loop
+emit-alternatives-loop-less t c = let a = c .before .before .before .before .before .before .before .before .before .before .before .before .before .before .before .before .before .before .before .before .before .before .before .before .args in let s = a .s .now in let d = a .depth in let j = c .before .before .before .before .before .before .before .before .before .before .before .before .before .before .before .before .loop .i in let p = c .before .before .before .before .before .before .before .before .before .before .before .before .before .before .before .before .loop .inv in let h = p .within in let z = c .before .before .before .before .before .before .before .before .before .before .before .before .before .before .before .before .before .before .before .before .before .before .before .before .pre .1 .2 in let v = c .before .before .before .before .before .before .before .before .before .before .before .before .before .one .given .0 in let q = sym (c .before .before .before .before .before .before .before .before .before .before .before .before .before .one .given .1) ∙ c .before .before .before .before .before .before .before .before .before .before .before .before .before .before .before .sequence .ensures in let g = far s d j h seq (v .0) (v .1 .0) q in let b = sym (c .before .before .before .before .before .before .before .before .before .before .before .look .ensures) ∙ c .before .before .before .before .before .before .before .before .before .before .if1 .left in let w = byte-of s (v .0) 124 (omega arith) b in omega arith
 
-emit-alternatives-add-emit-alternatives-3 :
-    (t : ℕ) → emit-alternatives-lts.Need-add-emit-alternatives-3 (sequence-reads.Asked, sequence-reads.Learnt, look-reads.Asked, look-reads.Learnt, emit-sequence-below t, emit-sequence.Post, alternatives-reads.Asked, alternatives-reads.Learnt, start-at-reads.Asked, start-at-reads.Learnt, put-fork-reads.Asked, put-fork-reads.Learnt, emit-alternatives-below t, emit-alternatives.Post) (emit-alternatives-at t) emit-alternatives.Post
-emit-alternatives-add-emit-alternatives-3 t c = let a = c .before .before .before .before .before .before .before .before .before .before .before .before .before .before .before .before .before .before .before .before .before .before .before .args in let s = a .s .now in let d = a .depth in let i = a .at in let h = c .before .before .before .before .before .before .before .before .before .before .before .before .before .before .before .before .before .before .before .before .before .before .before .pre .1 .0 in let m = c .before .before .before .before .before .before .before .before .before .before .before .before .before .before .before .before .before .before .before .before .before .before .before .pre .1 .3 in let zz = c .before .before .before .before .before .before .before .before .before .before .before .before .before .before .before .before .before .before .before .before .before .before .before .pre .1 .2 in let v = c .before .before .before .before .before .before .before .before .before .before .before .before .before .before .before .before .before .before .first .given .0 in let q = sym (c .before .before .before .before .before .before .before .before .before .before .before .before .before .before .before .before .before .before .first .given .1) ∙ c .before .before .before .before .before .before .before .before .before .before .before .before .before .before .before .before .before .before .before .before .sequence .ensures in let g = far s d i h seq (v .0) (v .1 .0) q in let x₁ = is-inv (read s seq d i) (v .0) (v .1 .0) q in let z = m .numbers in omega (arith, g, c .before .before .before .before .before .before .before .before .before .before .before .before .before .before .before .before .before .before .before .before .before .before .before .good)
-
-emit-alternatives-emit-alternatives-requires :
-    (t : ℕ) → emit-alternatives-lts.Need-emit-alternatives-requires (sequence-reads.Asked, sequence-reads.Learnt, look-reads.Asked, look-reads.Learnt, emit-sequence-below t, emit-sequence.Post, alternatives-reads.Asked, alternatives-reads.Learnt, start-at-reads.Asked, start-at-reads.Learnt, put-fork-reads.Asked, put-fork-reads.Learnt, emit-alternatives-below t, emit-alternatives.Post) (emit-alternatives-at t) emit-alternatives.Post
-emit-alternatives-emit-alternatives-requires t c κs =
-    let a = c .before .before .before .before .before .before .before .before .before .before .before .before .before .before .before .before .before .before .before .before .before .before .before .args in let s = a .s .now in let d = a .depth in let i = a .at in let h = c .before .before .before .before .before .before .before .before .before .before .before .before .before .before .before .before .before .before .before .before .before .before .before .pre .1 .0 in let m = c .before .before .before .before .before .before .before .before .before .before .before .before .before .before .before .before .before .before .before .before .before .before .before .pre .1 .3 in let zz = c .before .before .before .before .before .before .before .before .before .before .before .before .before .before .before .before .before .before .before .before .before .before .before .pre .1 .2 in let v = c .before .before .before .before .before .before .before .before .before .before .before .before .before .before .before .before .before .before .first .given .0 in let q = sym (c .before .before .before .before .before .before .before .before .before .before .before .before .before .before .before .before .before .before .first .given .1) ∙ c .before .before .before .before .before .before .before .before .before .before .before .before .before .before .before .before .before .before .before .before .sequence .ensures in let g = far s d i h seq (v .0) (v .1 .0) q in let x₁ = is-inv (read s seq d i) (v .0) (v .1 .0) q in let b = sym (c .before .before .before .before .before .before .before .before .before .before .before .before .before .before .before .before .look .ensures) ∙ c .before .before .before .before .before .before .before .before .before .before .before .before .before .before .before .if1 .left in let k = byte-of s (v .0) 124 (omega arith) b in let w = c .before .before .before .before .before .before .before .before .before .before .before .before .rest .given .0 in let q′ = sym (c .before .before .before .before .before .before .before .before .before .before .before .before .rest .given .1) ∙ c .before .before .before .before .before .before .before .before .before .before .before .before .before .before .alternatives .ensures in let x₂ = is-inv (read s alts d (v .0 + 1)) (w .0) (w .1 .0) q′ in let x = alts-is s d i h (v .0) (v .1 .0) q b (w .0) (w .1 .0) q′ in (
-      omega (arith, c .before .before .before .before .before .before .before .before .before .before .before .before .before .before .before .before .before .before .before .before .before .before .before .pre .0),
-      (
-        omega arith,
-        c .before .before .before .before .before .before .before .before .before .before .before .before .before .before .before .before .before .before .before .before .before .before .before .pre .1 .1,
-        zz,
-        room-moved (read s alts d (v .0 + 1)) (a .n + 1 + v .1 .0 .size) (a .f) (a .o + 3 + length (coded (read s seq d i) (a .n + 1) (a .f))) _ (length (a .out .now)) _
-            (sym (c .before .before .before .emit-sequence2 .ensures .on ∙ ap (λ (j : ℕ). j + length (coded (read s seq d i) (a .n + 1) (a .f))) (c .before .before .before .before .before .before .before .put-fork .ensures .on))) (sym (c .before .before .before .emit-sequence2 .kept .1 .1 .1 .0 ∙ c .before .before .before .before .before .before .before .put-fork .kept .0)) (alt-second (read s alts d i) (read s seq d i) (read s alts d (v .0 + 1)) (inv (read s seq d i) q .pat) (inv (read s alts d (v .0 + 1)) q′ .pat) x₁ x₂ (a .n) (a .f) (v .1 .0 .size) (w .1 .0 .size) (sized-of (read s seq d i) q) (sized-of (read s alts d (v .0 + 1)) q′) x (a .o) (length (a .out .now)) m),
-      ),
-    )
-
-emit-alternatives-same-length-2 : (t : ℕ) → emit-alternatives-lts.Need-same-length-2 (sequence-reads.Asked, sequence-reads.Learnt, look-reads.Asked, look-reads.Learnt, emit-sequence-below t, emit-sequence.Post, alternatives-reads.Asked, alternatives-reads.Learnt, start-at-reads.Asked, start-at-reads.Learnt, put-fork-reads.Asked, put-fork-reads.Learnt, emit-alternatives-below t, emit-alternatives.Post) (emit-alternatives-at t) emit-alternatives.Post
-emit-alternatives-same-length-2 t c = c .before .before .emit-alternatives .kept .1 .1 .1 .0 ∙ c .before .before .before .before .before .before .emit-sequence2 .kept .1 .1 .1 .0 ∙ c .before .before .before .before .before .before .before .before .before .before .put-fork .kept .0
-
-emit-alternatives-returns-4 : (t : ℕ) → emit-alternatives-lts.Need-returns-4 (sequence-reads.Asked, sequence-reads.Learnt, look-reads.Asked, look-reads.Learnt, emit-sequence-below t, emit-sequence.Post, alternatives-reads.Asked, alternatives-reads.Learnt, start-at-reads.Asked, start-at-reads.Learnt, put-fork-reads.Asked, put-fork-reads.Learnt, emit-alternatives-below t, emit-alternatives.Post) (emit-alternatives-at t) emit-alternatives.Post
-emit-alternatives-returns-4 t c =
-    let a = c .before .before .before .before .before .before .before .before .before .before .before .before .before .before .before .before .before .before .before .before .before .before .before .before .before .before .args in let s = a .s .now in let d = a .depth in let i = a .at in let h = c .before .before .before .before .before .before .before .before .before .before .before .before .before .before .before .before .before .before .before .before .before .before .before .before .before .before .pre .1 .0 in let m = c .before .before .before .before .before .before .before .before .before .before .before .before .before .before .before .before .before .before .before .before .before .before .before .before .before .before .pre .1 .3 in let zz = c .before .before .before .before .before .before .before .before .before .before .before .before .before .before .before .before .before .before .before .before .before .before .before .before .before .before .pre .1 .2 in let v = c .before .before .before .before .before .before .before .before .before .before .before .before .before .before .before .before .before .before .before .before .before .first .given .0 in let q = sym (c .before .before .before .before .before .before .before .before .before .before .before .before .before .before .before .before .before .before .before .before .before .first .given .1) ∙ c .before .before .before .before .before .before .before .before .before .before .before .before .before .before .before .before .before .before .before .before .before .before .before .sequence .ensures in let g = far s d i h seq (v .0) (v .1 .0) q in let x₁ = is-inv (read s seq d i) (v .0) (v .1 .0) q in let b = sym (c .before .before .before .before .before .before .before .before .before .before .before .before .before .before .before .before .before .before .before .look .ensures) ∙ c .before .before .before .before .before .before .before .before .before .before .before .before .before .before .before .before .before .before .if1 .left in let k = byte-of s (v .0) 124 (omega arith) b in let w = c .before .before .before .before .before .before .before .before .before .before .before .before .before .before .before .rest .given .0 in let q′ = sym (c .before .before .before .before .before .before .before .before .before .before .before .before .before .before .before .rest .given .1) ∙ c .before .before .before .before .before .before .before .before .before .before .before .before .before .before .before .before .before .alternatives .ensures in let x₂ = is-inv (read s alts d (v .0 + 1)) (w .0) (w .1 .0) q′ in let x = alts-is s d i h (v .0) (v .1 .0) q b (w .0) (w .1 .0) q′ in
-    wrote-whole _ _ _ _ _ _ (alt-coded (read s alts d i) (read s seq d i) (read s alts d (v .0 + 1)) (inv (read s seq d i) q .pat) (inv (read s alts d (v .0 + 1)) q′ .pat) x₁ x₂ (a .n) (a .f) (v .1 .0 .size) (w .1 .0 .size) (sized-of (read s seq d i) q) (sized-of (read s alts d (v .0 + 1)) q′) x)
-    (chained _ _ _ _ _ _ _ _ (forked _ _ _ _ _ _ _ _ (c .before .before .before .before .before .before .before .before .before .before .before .before .before .start-at .ensures) (c .before .before .before .before .before .before .before .before .before .before .before .before .start-at2 .ensures) (c .before .before .before .before .before .before .before .before .before .before .put-fork .ensures))
-    (chained _ _ _ _ _ _ _ _ (c .before .before .before .before .before .before .emit-sequence2 .ensures) (c .before .before .emit-alternatives .ensures)))
+emit-alternatives-loop-again : (t : ℕ) → emit-alternatives-lts.Need-loop-again (alternatives-reads.Asked, alternatives-reads.Learnt, sequence-reads.Asked, sequence-reads.Learnt, look-reads.Asked, look-reads.Learnt, emit-sequence-below t, emit-sequence.Post, start-at-reads.Asked, start-at-reads.Learnt, put-fork-reads.Asked, put-fork-reads.Learnt)
+    (emit-alternatives-at t)
+    emit-alternatives.Post
+    emit-alternatives-Inv-loop
+    emit-alternatives-μ-loop
+emit-alternatives-loop-again t c = let a = c .before .before .before .before .before .before .before .before .before .before .before .before .before .before .before .before .before .before .before .before .before .before .before .before .args in let s = a .s .now in let d = a .depth in let j = c .before .before .before .before .before .before .before .before .before .before .before .before .before .before .before .before .loop .i in let p = c .before .before .before .before .before .before .before .before .before .before .before .before .before .before .before .before .loop .inv in let h = p .within in let z = c .before .before .before .before .before .before .before .before .before .before .before .before .before .before .before .before .before .before .before .before .before .before .before .before .pre .1 .2 in let v = c .before .before .before .before .before .before .before .before .before .before .before .before .before .one .given .0 in let q = sym (c .before .before .before .before .before .before .before .before .before .before .before .before .before .one .given .1) ∙ c .before .before .before .before .before .before .before .before .before .before .before .before .before .before .before .sequence .ensures in let g = far s d j h seq (v .0) (v .1 .0) q in let b = sym (c .before .before .before .before .before .before .before .before .before .before .before .look .ensures) ∙ c .before .before .before .before .before .before .before .before .before .before .if1 .left in alts-sent p (v .0) (v .1 .0) q b _ _ (c .before .before .before .before .before .before .before .before .before .start-at .ensures) (c .before .before .before .before .before .before .before .before .start-at2 .ensures) _ _ (c .before .before .before .before .before .before .put-fork .ensures) _ _ (c .before .before .emit-sequence2 .ensures)
 
 emit-atomic-look-requires : (t : ℕ) → emit-atomic-lts.Need-look-requires (look-reads.Asked, look-reads.Learnt, emit-lone-reads.Asked, emit-lone-reads.Learnt, alternatives-reads.Asked, alternatives-reads.Learnt, emit-alternatives-below t, emit-alternatives.Post) (emit-atomic-at t) emit-atomic.Post
 emit-atomic-look-requires t c κs = search needs
@@ -369,74 +440,68 @@ emit-repeated-same-length-4 t c = search needs
 emit-repeated-returns-5 : (t : ℕ) → emit-repeated-lts.Need-returns-5 (atomic-reads.Asked, atomic-reads.Learnt, look-reads.Asked, look-reads.Learnt, start-at-reads.Asked, start-at-reads.Learnt, put-fork-reads.Asked, put-fork-reads.Learnt, emit-atomic-below t, emit-atomic.Post) (emit-repeated-at t) emit-repeated.Post
 emit-repeated-returns-5 t c = let a = c .before .before .before .before .before .before .before .before .before .before .before .before .before .before .args in let s = a .s .now in let d = a .depth in let i = a .at in let h = c .before .before .before .before .before .before .before .before .before .before .before .before .before .before .pre .1 .0 in let m = c .before .before .before .before .before .before .before .before .before .before .before .before .before .before .pre .1 .3 in let zz = c .before .before .before .before .before .before .before .before .before .before .before .before .before .before .pre .1 .2 in let v = c .before .before .before .before .before .before .before .before .before .one .given .0 in let q = sym (c .before .before .before .before .before .before .before .before .before .one .given .1) ∙ c .before .before .before .before .before .before .before .before .before .before .before .atomic .ensures in let g = far s d i h atom (v .0) (v .1 .0) q in let x₁ = is-inv (read s atom d i) (v .0) (v .1 .0) q in let x = piece-is-one s d i h (v .0) (v .1 .0) q (λ z. c .before .before .before .before .before .before .if1 .left (c .before .before .before .before .before .before .before .look .ensures ∙ z)) (λ z. c .before .before .before .before .before .if2 .left (c .before .before .before .before .before .before .before .look .ensures ∙ z)) (λ z. c .before .before .before .before .if3 .left (c .before .before .before .before .before .before .before .look .ensures ∙ z)) in wrote-same _ _ _ _ (read s piece d i) (read s atom d i) (inv (read s atom d i) q .pat) (a .n) (a .f) x x₁ (c .before .before .emit-atomic4 .ensures)
 
-emit-sequence-look-requires : (t : ℕ) → emit-sequence-lts.Need-look-requires (look-reads.Asked, look-reads.Learnt, stops-at-reads.Asked, stops-at-reads.Learnt, repeated-reads.Asked, repeated-reads.Learnt, sequence-reads.Asked, sequence-reads.Learnt, start-at-reads.Asked, start-at-reads.Learnt, emit-repeated-below t, emit-repeated.Post, emit-sequence-below t, emit-sequence.Post) (emit-sequence-at t) emit-sequence.Post
+abbrev emit-sequence-Inv-loop : emit-sequence-lts.InvT-loop
+emit-sequence-Inv-loop s at depth out₀ o n f last i₀ k₀ p₀ out i k p = Sent s seq depth at n f o out₀ last i k p out
+
+abbrev emit-sequence-μ-loop : emit-sequence-lts.MeasureT-loop
+emit-sequence-μ-loop s at depth out₀ o n f last i₀ k₀ p₀ out i k p = length s - i
+
+emit-sequence-sequence-requires : (t : ℕ) → emit-sequence-lts.Need-sequence-requires (sequence-reads.Asked, sequence-reads.Learnt, look-reads.Asked, look-reads.Learnt, stops-at-reads.Asked, stops-at-reads.Learnt, repeated-reads.Asked, repeated-reads.Learnt, start-at-reads.Asked, start-at-reads.Learnt, emit-repeated-below t, emit-repeated.Post) (emit-sequence-at t) emit-sequence.Post emit-sequence-Inv-loop emit-sequence-μ-loop
+emit-sequence-sequence-requires t c κs = (c .before .before .pre .1 .0, c .before .before .pre .1 .1, c .before .before .pre .1 .2)
+
+emit-sequence-enum-known-whole : (t : ℕ) → emit-sequence-lts.Need-enum-known-whole (sequence-reads.Asked, sequence-reads.Learnt, look-reads.Asked, look-reads.Learnt, stops-at-reads.Asked, stops-at-reads.Learnt, repeated-reads.Asked, repeated-reads.Learnt, start-at-reads.Asked, start-at-reads.Learnt, emit-repeated-below t, emit-repeated.Post) (emit-sequence-at t) emit-sequence.Post emit-sequence-Inv-loop emit-sequence-μ-loop
+emit-sequence-enum-known-whole t c = search needs
+
+emit-sequence-returns : (t : ℕ) → emit-sequence-lts.Need-returns (sequence-reads.Asked, sequence-reads.Learnt, look-reads.Asked, look-reads.Learnt, stops-at-reads.Asked, stops-at-reads.Learnt, repeated-reads.Asked, repeated-reads.Learnt, start-at-reads.Asked, start-at-reads.Learnt, emit-repeated-below t, emit-repeated.Post) (emit-sequence-at t) emit-sequence.Post emit-sequence-Inv-loop emit-sequence-μ-loop
+emit-sequence-returns t c = let a = c .before .before .before .before .args in let s = a .s .now in let d = a .depth in let h = c .before .before .before .before .pre .1 .0 in let z = c .before .before .before .before .pre .1 .2 in let m = c .before .before .before .before .pre .1 .3 in wrote-refused (a .out .now) (a .o) (a .n) (a .f) (c .before .sequence .result) (read s seq d (a .at)) (refused (c .before .sequence .result) (c .match .keys2)) (c .before .sequence .ensures)
+
+emit-sequence-add-last : (t : ℕ) → emit-sequence-lts.Need-add-last (sequence-reads.Asked, sequence-reads.Learnt, look-reads.Asked, look-reads.Learnt, stops-at-reads.Asked, stops-at-reads.Learnt, repeated-reads.Asked, repeated-reads.Learnt, start-at-reads.Asked, start-at-reads.Learnt, emit-repeated-below t, emit-repeated.Post) (emit-sequence-at t) emit-sequence.Post emit-sequence-Inv-loop emit-sequence-μ-loop
+emit-sequence-add-last t c = let a = c .before .before .before .before .before .before .before .args in let s = a .s .now in let d = a .depth in let h = c .before .before .before .before .before .before .before .pre .1 .0 in let z = c .before .before .before .before .before .before .before .pre .1 .2 in let m = c .before .before .before .before .before .before .before .pre .1 .3 in let v = c .before .before .whole .given .0 in let q = sym (c .before .before .whole .given .1) ∙ c .before .before .before .before .sequence .ensures in let w = sent-below (sent-none s seq d (a .at) (a .n) (a .f) (a .o) (a .out .now) _ (v .0) (v .1 .0) h q refl m) in omega arith
+
+emit-sequence-loop-holds : (t : ℕ) → emit-sequence-lts.Need-loop-holds (sequence-reads.Asked, sequence-reads.Learnt, look-reads.Asked, look-reads.Learnt, stops-at-reads.Asked, stops-at-reads.Learnt, repeated-reads.Asked, repeated-reads.Learnt, start-at-reads.Asked, start-at-reads.Learnt, emit-repeated-below t, emit-repeated.Post) (emit-sequence-at t) emit-sequence.Post emit-sequence-Inv-loop emit-sequence-μ-loop
+emit-sequence-loop-holds t c = let a = c .before .before .before .before .before .before .before .args in let s = a .s .now in let d = a .depth in let h = c .before .before .before .before .before .before .before .pre .1 .0 in let z = c .before .before .before .before .before .before .before .pre .1 .2 in let m = c .before .before .before .before .before .before .before .pre .1 .3 in let v = c .before .before .whole .given .0 in let q = sym (c .before .before .whole .given .1) ∙ c .before .before .before .before .sequence .ensures in sent-none s seq d (a .at) (a .n) (a .f) (a .o) (a .out .now) _ (v .0) (v .1 .0) h q refl m
+
+emit-sequence-look-requires : (t : ℕ) → emit-sequence-lts.Need-look-requires (sequence-reads.Asked, sequence-reads.Learnt, look-reads.Asked, look-reads.Learnt, stops-at-reads.Asked, stops-at-reads.Learnt, repeated-reads.Asked, repeated-reads.Learnt, start-at-reads.Asked, start-at-reads.Learnt, emit-repeated-below t, emit-repeated.Post) (emit-sequence-at t) emit-sequence.Post emit-sequence-Inv-loop emit-sequence-μ-loop
 emit-sequence-look-requires t c κs = search needs
 
-emit-sequence-stops-at-requires : (t : ℕ) → emit-sequence-lts.Need-stops-at-requires (look-reads.Asked, look-reads.Learnt, stops-at-reads.Asked, stops-at-reads.Learnt, repeated-reads.Asked, repeated-reads.Learnt, sequence-reads.Asked, sequence-reads.Learnt, start-at-reads.Asked, start-at-reads.Learnt, emit-repeated-below t, emit-repeated.Post, emit-sequence-below t, emit-sequence.Post) (emit-sequence-at t) emit-sequence.Post
+emit-sequence-stops-at-requires : (t : ℕ) → emit-sequence-lts.Need-stops-at-requires (sequence-reads.Asked, sequence-reads.Learnt, look-reads.Asked, look-reads.Learnt, stops-at-reads.Asked, stops-at-reads.Learnt, repeated-reads.Asked, repeated-reads.Learnt, start-at-reads.Asked, start-at-reads.Learnt, emit-repeated-below t, emit-repeated.Post) (emit-sequence-at t) emit-sequence.Post emit-sequence-Inv-loop emit-sequence-μ-loop
 emit-sequence-stops-at-requires t c κs = search needs
 
-emit-sequence-returns : (t : ℕ) → emit-sequence-lts.Need-returns (look-reads.Asked, look-reads.Learnt, stops-at-reads.Asked, stops-at-reads.Learnt, repeated-reads.Asked, repeated-reads.Learnt, sequence-reads.Asked, sequence-reads.Learnt, start-at-reads.Asked, start-at-reads.Learnt, emit-repeated-below t, emit-repeated.Post, emit-sequence-below t, emit-sequence.Post) (emit-sequence-at t) emit-sequence.Post
-emit-sequence-returns t c = let a = c .before .before .before .before .before .args in let s = a .s .now in let d = a .depth in let i = a .at in let h = c .before .before .before .before .before .pre .1 .0 in let m = c .before .before .before .before .before .pre .1 .3 in let zz = c .before .before .before .before .before .pre .1 .2 in wrote-empty (a .out .now) (a .o) (a .n) (a .f) (read s seq d i) (seq-is-none s d i h (subst (λ (n : ℕ). stops n ≡ true) (c .before .before .look .ensures) (sym (c .before .stops-at .ensures) ∙ c .if1 .taken)))
+emit-sequence-same-length : (t : ℕ) → emit-sequence-lts.Need-same-length (sequence-reads.Asked, sequence-reads.Learnt, look-reads.Asked, look-reads.Learnt, stops-at-reads.Asked, stops-at-reads.Learnt, repeated-reads.Asked, repeated-reads.Learnt, start-at-reads.Asked, start-at-reads.Learnt, emit-repeated-below t, emit-repeated.Post) (emit-sequence-at t) emit-sequence.Post emit-sequence-Inv-loop emit-sequence-μ-loop
+emit-sequence-same-length t c = let a = c .before .before .before .before .before .before .before .before .before .before .before .args in let s = a .s .now in let d = a .depth in let j = c .before .before .before .loop .i in let p = c .before .before .before .loop .inv in let h = p .within in let z = c .before .before .before .before .before .before .before .before .before .before .before .pre .1 .2 in wrote-length (p .done) (p .wrote)
 
-emit-sequence-repeated-requires : (t : ℕ) → emit-sequence-lts.Need-repeated-requires (look-reads.Asked, look-reads.Learnt, stops-at-reads.Asked, stops-at-reads.Learnt, repeated-reads.Asked, repeated-reads.Learnt, sequence-reads.Asked, sequence-reads.Learnt, start-at-reads.Asked, start-at-reads.Learnt, emit-repeated-below t, emit-repeated.Post, emit-sequence-below t, emit-sequence.Post) (emit-sequence-at t) emit-sequence.Post
-emit-sequence-repeated-requires t c κs = (c .before .before .before .before .before .pre .1 .0, c .before .before .before .before .before .pre .1 .1, c .before .before .before .before .before .pre .1 .2)
+emit-sequence-returns-2 : (t : ℕ) → emit-sequence-lts.Need-returns-2 (sequence-reads.Asked, sequence-reads.Learnt, look-reads.Asked, look-reads.Learnt, stops-at-reads.Asked, stops-at-reads.Learnt, repeated-reads.Asked, repeated-reads.Learnt, start-at-reads.Asked, start-at-reads.Learnt, emit-repeated-below t, emit-repeated.Post) (emit-sequence-at t) emit-sequence.Post emit-sequence-Inv-loop emit-sequence-μ-loop
+emit-sequence-returns-2 t c = let a = c .before .before .before .before .before .before .before .before .before .before .before .args in let s = a .s .now in let d = a .depth in let j = c .before .before .before .loop .i in let p = c .before .before .before .loop .inv in let h = p .within in let z = c .before .before .before .before .before .before .before .before .before .before .before .pre .1 .2 in let b = subst (λ (n : ℕ). stops n ≡ true) (c .before .before .look .ensures) (sym (c .before .stops-at .ensures) ∙ c .if1 .taken) in seq-ends p b
 
-emit-sequence-enum-known-first : (t : ℕ) → emit-sequence-lts.Need-enum-known-first (look-reads.Asked, look-reads.Learnt, stops-at-reads.Asked, stops-at-reads.Learnt, repeated-reads.Asked, repeated-reads.Learnt, sequence-reads.Asked, sequence-reads.Learnt, start-at-reads.Asked, start-at-reads.Learnt, emit-repeated-below t, emit-repeated.Post, emit-sequence-below t, emit-sequence.Post) (emit-sequence-at t) emit-sequence.Post
-emit-sequence-enum-known-first t c = search needs
+emit-sequence-repeated-requires : (t : ℕ) → emit-sequence-lts.Need-repeated-requires (sequence-reads.Asked, sequence-reads.Learnt, look-reads.Asked, look-reads.Learnt, stops-at-reads.Asked, stops-at-reads.Learnt, repeated-reads.Asked, repeated-reads.Learnt, start-at-reads.Asked, start-at-reads.Learnt, emit-repeated-below t, emit-repeated.Post) (emit-sequence-at t) emit-sequence.Post emit-sequence-Inv-loop emit-sequence-μ-loop
+emit-sequence-repeated-requires t c κs = (c .before .before .before .loop .inv .within, c .before .before .before .before .before .before .before .before .before .before .before .pre .1 .1, c .before .before .before .before .before .before .before .before .before .before .before .pre .1 .2)
 
-emit-sequence-returns-2 : (t : ℕ) → emit-sequence-lts.Need-returns-2 (look-reads.Asked, look-reads.Learnt, stops-at-reads.Asked, stops-at-reads.Learnt, repeated-reads.Asked, repeated-reads.Learnt, sequence-reads.Asked, sequence-reads.Learnt, start-at-reads.Asked, start-at-reads.Learnt, emit-repeated-below t, emit-repeated.Post, emit-sequence-below t, emit-sequence.Post) (emit-sequence-at t) emit-sequence.Post
-emit-sequence-returns-2 t c =
-    let a = c .before .before .before .before .before .before .before .args in let s = a .s .now in let d = a .depth in let i = a .at in let h = c .before .before .before .before .before .before .before .pre .1 .0 in let m = c .before .before .before .before .before .before .before .pre .1 .3 in let zz = c .before .before .before .before .before .before .before .pre .1 .2 in let b = subst (λ (n : ℕ). stops n ≡ false) (c .before .before .before .before .look .ensures) (sym (c .before .before .before .stops-at .ensures) ∙ c .before .before .if1 .left) in
-    let y = refused (c .before .repeated .result) (c .match .keys2) in
-    wrote-refused (a .out .now) (a .o) (a .n) (a .f) (c .before .repeated .result) (read s seq d i) y (seq-refused s d i h b (c .before .repeated .result) y (c .before .repeated .ensures))
+emit-sequence-enum-known-one : (t : ℕ) → emit-sequence-lts.Need-enum-known-one (sequence-reads.Asked, sequence-reads.Learnt, look-reads.Asked, look-reads.Learnt, stops-at-reads.Asked, stops-at-reads.Learnt, repeated-reads.Asked, repeated-reads.Learnt, start-at-reads.Asked, start-at-reads.Learnt, emit-repeated-below t, emit-repeated.Post) (emit-sequence-at t) emit-sequence.Post emit-sequence-Inv-loop emit-sequence-μ-loop
+emit-sequence-enum-known-one t c = search needs
 
-emit-sequence-sequence-requires : (t : ℕ) → emit-sequence-lts.Need-sequence-requires (look-reads.Asked, look-reads.Learnt, stops-at-reads.Asked, stops-at-reads.Learnt, repeated-reads.Asked, repeated-reads.Learnt, sequence-reads.Asked, sequence-reads.Learnt, start-at-reads.Asked, start-at-reads.Learnt, emit-repeated-below t, emit-repeated.Post, emit-sequence-below t, emit-sequence.Post) (emit-sequence-at t) emit-sequence.Post
-emit-sequence-sequence-requires t c κs = let a = c .before .before .before .before .before .before .before .before .before .args in let s = a .s .now in let d = a .depth in let i = a .at in let h = c .before .before .before .before .before .before .before .before .before .pre .1 .0 in let m = c .before .before .before .before .before .before .before .before .before .pre .1 .3 in let zz = c .before .before .before .before .before .before .before .before .before .pre .1 .2 in let v = c .before .first .given .0 in let q = sym (c .before .first .given .1) ∙ c .before .before .before .repeated .ensures in let g = far s d i h piece (v .0) (v .1 .0) q in let x₁ = is-inv (read s piece d i) (v .0) (v .1 .0) q in (g .1, c .before .before .before .before .before .before .before .before .before .pre .1 .1, zz)
+emit-sequence-same-length-2 : (t : ℕ) → emit-sequence-lts.Need-same-length-2 (sequence-reads.Asked, sequence-reads.Learnt, look-reads.Asked, look-reads.Learnt, stops-at-reads.Asked, stops-at-reads.Learnt, repeated-reads.Asked, repeated-reads.Learnt, start-at-reads.Asked, start-at-reads.Learnt, emit-repeated-below t, emit-repeated.Post) (emit-sequence-at t) emit-sequence.Post emit-sequence-Inv-loop emit-sequence-μ-loop
+emit-sequence-same-length-2 t c = let a = c .before .before .before .before .before .before .before .before .before .before .before .before .before .args in let s = a .s .now in let d = a .depth in let j = c .before .before .before .before .before .loop .i in let p = c .before .before .before .before .before .loop .inv in let h = p .within in let z = c .before .before .before .before .before .before .before .before .before .before .before .before .before .pre .1 .2 in wrote-length (p .done) (p .wrote)
 
-emit-sequence-enum-known-rest : (t : ℕ) → emit-sequence-lts.Need-enum-known-rest (look-reads.Asked, look-reads.Learnt, stops-at-reads.Asked, stops-at-reads.Learnt, repeated-reads.Asked, repeated-reads.Learnt, sequence-reads.Asked, sequence-reads.Learnt, start-at-reads.Asked, start-at-reads.Learnt, emit-repeated-below t, emit-repeated.Post, emit-sequence-below t, emit-sequence.Post) (emit-sequence-at t) emit-sequence.Post
-emit-sequence-enum-known-rest t c = search needs
+emit-sequence-returns-3 : (t : ℕ) → emit-sequence-lts.Need-returns-3 (sequence-reads.Asked, sequence-reads.Learnt, look-reads.Asked, look-reads.Learnt, stops-at-reads.Asked, stops-at-reads.Learnt, repeated-reads.Asked, repeated-reads.Learnt, start-at-reads.Asked, start-at-reads.Learnt, emit-repeated-below t, emit-repeated.Post) (emit-sequence-at t) emit-sequence.Post emit-sequence-Inv-loop emit-sequence-μ-loop
+emit-sequence-returns-3 t c = let a = c .before .before .before .before .before .before .before .before .before .before .before .before .before .args in let s = a .s .now in let d = a .depth in let j = c .before .before .before .before .before .loop .i in let p = c .before .before .before .before .before .loop .inv in let h = p .within in let z = c .before .before .before .before .before .before .before .before .before .before .before .before .before .pre .1 .2 in let b = subst (λ (n : ℕ). stops n ≡ false) (c .before .before .before .before .look .ensures) (sym (c .before .before .before .stops-at .ensures) ∙ c .before .before .if1 .left) in let y = refused (c .before .repeated .result) (c .match2 .keys2) in absurd (sent-whole p (c .before .repeated .result) y (seq-refused s d j h b (c .before .repeated .result) y (c .before .repeated .ensures)))
 
-emit-sequence-returns-3 : (t : ℕ) → emit-sequence-lts.Need-returns-3 (look-reads.Asked, look-reads.Learnt, stops-at-reads.Asked, stops-at-reads.Learnt, repeated-reads.Asked, repeated-reads.Learnt, sequence-reads.Asked, sequence-reads.Learnt, start-at-reads.Asked, start-at-reads.Learnt, emit-repeated-below t, emit-repeated.Post, emit-sequence-below t, emit-sequence.Post) (emit-sequence-at t) emit-sequence.Post
-emit-sequence-returns-3 t c =
-    let a = c .before .before .before .before .before .before .before .before .before .before .before .args in let s = a .s .now in let d = a .depth in let i = a .at in let h = c .before .before .before .before .before .before .before .before .before .before .before .pre .1 .0 in let m = c .before .before .before .before .before .before .before .before .before .before .before .pre .1 .3 in let zz = c .before .before .before .before .before .before .before .before .before .before .before .pre .1 .2 in let b = subst (λ (n : ℕ). stops n ≡ false) (c .before .before .before .before .before .before .before .before .look .ensures) (sym (c .before .before .before .before .before .before .before .stops-at .ensures) ∙ c .before .before .before .before .before .before .if1 .left) in let v = c .before .before .before .first .given .0 in let q = sym (c .before .before .before .first .given .1) ∙ c .before .before .before .before .before .repeated .ensures in let g = far s d i h piece (v .0) (v .1 .0) q in let x₁ = is-inv (read s piece d i) (v .0) (v .1 .0) q in
-    let y = refused (c .before .sequence .result) (c .match2 .keys2) in
-    wrote-refused (a .out .now) (a .o) (a .n) (a .f) (c .before .sequence .result) (read s seq d i) y (seq-tail-refused s d i h b (v .0) (v .1 .0) q (c .before .sequence .result) y (c .before .sequence .ensures))
+emit-sequence-add-next : (t : ℕ) → emit-sequence-lts.Need-add-next (sequence-reads.Asked, sequence-reads.Learnt, look-reads.Asked, look-reads.Learnt, stops-at-reads.Asked, stops-at-reads.Learnt, repeated-reads.Asked, repeated-reads.Learnt, start-at-reads.Asked, start-at-reads.Learnt, emit-repeated-below t, emit-repeated.Post) (emit-sequence-at t) emit-sequence.Post emit-sequence-Inv-loop emit-sequence-μ-loop
+emit-sequence-add-next t c = let a = c .before .before .before .before .before .before .before .before .before .before .before .before .before .before .before .before .args in let s = a .s .now in let d = a .depth in let j = c .before .before .before .before .before .before .before .before .loop .i in let p = c .before .before .before .before .before .before .before .before .loop .inv in let h = p .within in let z = c .before .before .before .before .before .before .before .before .before .before .before .before .before .before .before .before .pre .1 .2 in let v = c .before .before .one .given .0 in let q = sym (c .before .before .one .given .1) ∙ c .before .before .before .before .repeated .ensures in let g = far s d j h piece (v .0) (v .1 .0) q in let b = subst (λ (n : ℕ). stops n ≡ false) (c .before .before .before .before .before .before .before .look .ensures) (sym (c .before .before .before .before .before .before .stops-at .ensures) ∙ c .before .before .before .before .before .if1 .left) in let w = sent-below p in let u = seq-next p b (v .0) (v .1 .0) q in omega arith
 
-emit-sequence-add-start-at : (t : ℕ) → emit-sequence-lts.Need-add-start-at (look-reads.Asked, look-reads.Learnt, stops-at-reads.Asked, stops-at-reads.Learnt, repeated-reads.Asked, repeated-reads.Learnt, sequence-reads.Asked, sequence-reads.Learnt, start-at-reads.Asked, start-at-reads.Learnt, emit-repeated-below t, emit-repeated.Post, emit-sequence-below t, emit-sequence.Post) (emit-sequence-at t) emit-sequence.Post
-emit-sequence-add-start-at t c = let a = c .before .before .before .before .before .before .before .before .before .before .before .before .before .args in let s = a .s .now in let d = a .depth in let i = a .at in let h = c .before .before .before .before .before .before .before .before .before .before .before .before .before .pre .1 .0 in let m = c .before .before .before .before .before .before .before .before .before .before .before .before .before .pre .1 .3 in let zz = c .before .before .before .before .before .before .before .before .before .before .before .before .before .pre .1 .2 in let v = c .before .before .before .before .before .first .given .0 in let q = sym (c .before .before .before .before .before .first .given .1) ∙ c .before .before .before .before .before .before .before .repeated .ensures in let g = far s d i h piece (v .0) (v .1 .0) q in let x₁ = is-inv (read s piece d i) (v .0) (v .1 .0) q in let z = m .numbers in omega (arith, g, c .before .before .before .before .before .before .before .before .before .before .before .before .before .good)
+emit-sequence-sub-start-at : (t : ℕ) → emit-sequence-lts.Need-sub-start-at (sequence-reads.Asked, sequence-reads.Learnt, look-reads.Asked, look-reads.Learnt, stops-at-reads.Asked, stops-at-reads.Learnt, repeated-reads.Asked, repeated-reads.Learnt, start-at-reads.Asked, start-at-reads.Learnt, emit-repeated-below t, emit-repeated.Post) (emit-sequence-at t) emit-sequence.Post emit-sequence-Inv-loop emit-sequence-μ-loop
+emit-sequence-sub-start-at t c = let a = c .before .before .before .before .before .before .before .before .before .before .before .before .before .before .before .before .args in let s = a .s .now in let d = a .depth in let j = c .before .before .before .before .before .before .before .before .loop .i in let p = c .before .before .before .before .before .before .before .before .loop .inv in let h = p .within in let z = c .before .before .before .before .before .before .before .before .before .before .before .before .before .before .before .before .pre .1 .2 in let v = c .before .before .one .given .0 in let q = sym (c .before .before .one .given .1) ∙ c .before .before .before .before .repeated .ensures in let g = far s d j h piece (v .0) (v .1 .0) q in let b = subst (λ (n : ℕ). stops n ≡ false) (c .before .before .before .before .before .before .before .look .ensures) (sym (c .before .before .before .before .before .before .stops-at .ensures) ∙ c .before .before .before .before .before .if1 .left) in seq-next p b (v .0) (v .1 .0) q
 
-emit-sequence-start-at-requires : (t : ℕ) → emit-sequence-lts.Need-start-at-requires (look-reads.Asked, look-reads.Learnt, stops-at-reads.Asked, stops-at-reads.Learnt, repeated-reads.Asked, repeated-reads.Learnt, sequence-reads.Asked, sequence-reads.Learnt, start-at-reads.Asked, start-at-reads.Learnt, emit-repeated-below t, emit-repeated.Post, emit-sequence-below t, emit-sequence.Post) (emit-sequence-at t) emit-sequence.Post
+emit-sequence-start-at-requires : (t : ℕ) → emit-sequence-lts.Need-start-at-requires (sequence-reads.Asked, sequence-reads.Learnt, look-reads.Asked, look-reads.Learnt, stops-at-reads.Asked, stops-at-reads.Learnt, repeated-reads.Asked, repeated-reads.Learnt, start-at-reads.Asked, start-at-reads.Learnt, emit-repeated-below t, emit-repeated.Post) (emit-sequence-at t) emit-sequence.Post emit-sequence-Inv-loop emit-sequence-μ-loop
 emit-sequence-start-at-requires t c κs = search needs
 
-emit-sequence-emit-repeated-requires : (t : ℕ) → emit-sequence-lts.Need-emit-repeated-requires (look-reads.Asked, look-reads.Learnt, stops-at-reads.Asked, stops-at-reads.Learnt, repeated-reads.Asked, repeated-reads.Learnt, sequence-reads.Asked, sequence-reads.Learnt, start-at-reads.Asked, start-at-reads.Learnt, emit-repeated-below t, emit-repeated.Post, emit-sequence-below t, emit-sequence.Post) (emit-sequence-at t) emit-sequence.Post
-emit-sequence-emit-repeated-requires t c κs =
-    let a = c .before .before .before .before .before .before .before .before .before .before .before .before .before .before .before .args in let s = a .s .now in let d = a .depth in let i = a .at in let h = c .before .before .before .before .before .before .before .before .before .before .before .before .before .before .before .pre .1 .0 in let m = c .before .before .before .before .before .before .before .before .before .before .before .before .before .before .before .pre .1 .3 in let zz = c .before .before .before .before .before .before .before .before .before .before .before .before .before .before .before .pre .1 .2 in let b = subst (λ (n : ℕ). stops n ≡ false) (c .before .before .before .before .before .before .before .before .before .before .before .before .look .ensures) (sym (c .before .before .before .before .before .before .before .before .before .before .before .stops-at .ensures) ∙ c .before .before .before .before .before .before .before .before .before .before .if1 .left) in let v = c .before .before .before .before .before .before .before .first .given .0 in let q = sym (c .before .before .before .before .before .before .before .first .given .1) ∙ c .before .before .before .before .before .before .before .before .before .repeated .ensures in let g = far s d i h piece (v .0) (v .1 .0) q in let x₁ = is-inv (read s piece d i) (v .0) (v .1 .0) q in let w = c .before .before .before .rest .given .0 in let q′ = sym (c .before .before .before .rest .given .1) ∙ c .before .before .before .before .before .sequence .ensures in let x₂ = is-inv (read s seq d (v .0)) (w .0) (w .1 .0) q′ in let x = seq-is s d i h b (v .0) (v .1 .0) q (w .0) (w .1 .0) q′ in
-    (omega (arith, c .before .before .before .before .before .before .before .before .before .before .before .before .before .before .before .pre .0), (h, c .before .before .before .before .before .before .before .before .before .before .before .before .before .before .before .pre .1 .1, zz, subst (λ (j : ℕ). Rattle.pattern.specs.Writing.Room (read s piece d i) (a .n) j (a .o) (length (a .out .now))) (sym (c .before .start-at .ensures)) (seq-first (read s seq d i) (read s piece d i) (read s seq d (v .0)) (inv (read s piece d i) q .pat) (inv (read s seq d (v .0)) q′ .pat) x₁ x₂ (a .n) (a .f) (v .1 .0 .size) (w .1 .0 .size) (sized-of (read s piece d i) q) (sized-of (read s seq d (v .0)) q′) x (a .o) (length (a .out .now)) m)))
+emit-sequence-emit-repeated-requires : (t : ℕ) → emit-sequence-lts.Need-emit-repeated-requires (sequence-reads.Asked, sequence-reads.Learnt, look-reads.Asked, look-reads.Learnt, stops-at-reads.Asked, stops-at-reads.Learnt, repeated-reads.Asked, repeated-reads.Learnt, start-at-reads.Asked, start-at-reads.Learnt, emit-repeated-below t, emit-repeated.Post) (emit-sequence-at t) emit-sequence.Post emit-sequence-Inv-loop emit-sequence-μ-loop
+emit-sequence-emit-repeated-requires t c κs = let a = c .before .before .before .before .before .before .before .before .before .before .before .before .before .before .before .before .before .before .args in let s = a .s .now in let d = a .depth in let j = c .before .before .before .before .before .before .before .before .before .before .loop .i in let p = c .before .before .before .before .before .before .before .before .before .before .loop .inv in let h = p .within in let z = c .before .before .before .before .before .before .before .before .before .before .before .before .before .before .before .before .before .before .pre .1 .2 in let v = c .before .before .before .before .one .given .0 in let q = sym (c .before .before .before .before .one .given .1) ∙ c .before .before .before .before .before .before .repeated .ensures in let g = far s d j h piece (v .0) (v .1 .0) q in let b = subst (λ (n : ℕ). stops n ≡ false) (c .before .before .before .before .before .before .before .before .before .look .ensures) (sym (c .before .before .before .before .before .before .before .before .stops-at .ensures) ∙ c .before .before .before .before .before .before .before .if1 .left) in (omega (arith, c .before .before .before .before .before .before .before .before .before .before .before .before .before .before .before .before .before .before .pre .0), (h, c .before .before .before .before .before .before .before .before .before .before .before .before .before .before .before .before .before .before .pre .1 .1, z, seq-room p b (v .0) (v .1 .0) q _ (c .before .start-at .ensures)))
 
-emit-sequence-add-emit-sequence : (t : ℕ) → emit-sequence-lts.Need-add-emit-sequence (look-reads.Asked, look-reads.Learnt, stops-at-reads.Asked, stops-at-reads.Learnt, repeated-reads.Asked, repeated-reads.Learnt, sequence-reads.Asked, sequence-reads.Learnt, start-at-reads.Asked, start-at-reads.Learnt, emit-repeated-below t, emit-repeated.Post, emit-sequence-below t, emit-sequence.Post) (emit-sequence-at t) emit-sequence.Post
-emit-sequence-add-emit-sequence t c = let a = c .before .before .before .before .before .before .before .before .before .before .before .before .before .before .before .before .before .before .before .args in let s = a .s .now in let d = a .depth in let i = a .at in let h = c .before .before .before .before .before .before .before .before .before .before .before .before .before .before .before .before .before .before .before .pre .1 .0 in let m = c .before .before .before .before .before .before .before .before .before .before .before .before .before .before .before .before .before .before .before .pre .1 .3 in let zz = c .before .before .before .before .before .before .before .before .before .before .before .before .before .before .before .before .before .before .before .pre .1 .2 in let v = c .before .before .before .before .before .before .before .before .before .before .before .first .given .0 in let q = sym (c .before .before .before .before .before .before .before .before .before .before .before .first .given .1) ∙ c .before .before .before .before .before .before .before .before .before .before .before .before .before .repeated .ensures in let g = far s d i h piece (v .0) (v .1 .0) q in let x₁ = is-inv (read s piece d i) (v .0) (v .1 .0) q in let z = m .numbers in omega (arith, g, c .before .before .before .before .before .before .before .before .before .before .before .before .before .before .before .before .before .before .before .good)
+emit-sequence-loop-less : (t : ℕ) → emit-sequence-lts.Need-loop-less (sequence-reads.Asked, sequence-reads.Learnt, look-reads.Asked, look-reads.Learnt, stops-at-reads.Asked, stops-at-reads.Learnt, repeated-reads.Asked, repeated-reads.Learnt, start-at-reads.Asked, start-at-reads.Learnt, emit-repeated-below t, emit-repeated.Post) (emit-sequence-at t) emit-sequence.Post emit-sequence-Inv-loop emit-sequence-μ-loop
+emit-sequence-loop-less t c = let a = c .before .before .before .before .before .before .before .before .before .before .before .before .before .before .before .before .before .before .before .before .before .args in let s = a .s .now in let d = a .depth in let j = c .before .before .before .before .before .before .before .before .before .before .before .before .before .loop .i in let p = c .before .before .before .before .before .before .before .before .before .before .before .before .before .loop .inv in let h = p .within in let z = c .before .before .before .before .before .before .before .before .before .before .before .before .before .before .before .before .before .before .before .before .before .pre .1 .2 in let v = c .before .before .before .before .before .before .before .one .given .0 in let q = sym (c .before .before .before .before .before .before .before .one .given .1) ∙ c .before .before .before .before .before .before .before .before .before .repeated .ensures in let g = far s d j h piece (v .0) (v .1 .0) q in omega arith
 
-emit-sequence-emit-sequence-requires : (t : ℕ) → emit-sequence-lts.Need-emit-sequence-requires (look-reads.Asked, look-reads.Learnt, stops-at-reads.Asked, stops-at-reads.Learnt, repeated-reads.Asked, repeated-reads.Learnt, sequence-reads.Asked, sequence-reads.Learnt, start-at-reads.Asked, start-at-reads.Learnt, emit-repeated-below t, emit-repeated.Post, emit-sequence-below t, emit-sequence.Post) (emit-sequence-at t) emit-sequence.Post
-emit-sequence-emit-sequence-requires t c κs =
-    let a = c .before .before .before .before .before .before .before .before .before .before .before .before .before .before .before .before .before .before .before .args in let s = a .s .now in let d = a .depth in let i = a .at in let h = c .before .before .before .before .before .before .before .before .before .before .before .before .before .before .before .before .before .before .before .pre .1 .0 in let m = c .before .before .before .before .before .before .before .before .before .before .before .before .before .before .before .before .before .before .before .pre .1 .3 in let zz = c .before .before .before .before .before .before .before .before .before .before .before .before .before .before .before .before .before .before .before .pre .1 .2 in let b = subst (λ (n : ℕ). stops n ≡ false) (c .before .before .before .before .before .before .before .before .before .before .before .before .before .before .before .before .look .ensures) (sym (c .before .before .before .before .before .before .before .before .before .before .before .before .before .before .before .stops-at .ensures) ∙ c .before .before .before .before .before .before .before .before .before .before .before .before .before .before .if1 .left) in let v = c .before .before .before .before .before .before .before .before .before .before .before .first .given .0 in let q = sym (c .before .before .before .before .before .before .before .before .before .before .before .first .given .1) ∙ c .before .before .before .before .before .before .before .before .before .before .before .before .before .repeated .ensures in let g = far s d i h piece (v .0) (v .1 .0) q in let x₁ = is-inv (read s piece d i) (v .0) (v .1 .0) q in let w = c .before .before .before .before .before .before .before .rest .given .0 in let q′ = sym (c .before .before .before .before .before .before .before .rest .given .1) ∙ c .before .before .before .before .before .before .before .before .before .sequence .ensures in let x₂ = is-inv (read s seq d (v .0)) (w .0) (w .1 .0) q′ in let x = seq-is s d i h b (v .0) (v .1 .0) q (w .0) (w .1 .0) q′ in (
-      omega (arith, c .before .before .before .before .before .before .before .before .before .before .before .before .before .before .before .before .before .before .before .pre .0),
-      (
-        g .1,
-        c .before .before .before .before .before .before .before .before .before .before .before .before .before .before .before .before .before .before .before .pre .1 .1,
-        zz,
-        room-moved (read s seq d (v .0)) (a .n + v .1 .0 .size) (a .f) _ _ (length (a .out .now)) _
-            (sym (c .before .before .before .emit-repeated .ensures .on ∙ ap (λ (j : ℕ). a .o + length (coded (read s piece d i) (a .n) j)) (c .before .before .before .before .before .start-at .ensures))) (sym (c .before .before .before .emit-repeated .kept .1 .1 .1 .0)) (seq-second (read s seq d i) (read s piece d i) (read s seq d (v .0)) (inv (read s piece d i) q .pat) (inv (read s seq d (v .0)) q′ .pat) x₁ x₂ (a .n) (a .f) (v .1 .0 .size) (w .1 .0 .size) (sized-of (read s piece d i) q) (sized-of (read s seq d (v .0)) q′) x (a .o) (length (a .out .now)) m),
-      ),
-    )
-
-emit-sequence-same-length : (t : ℕ) → emit-sequence-lts.Need-same-length (look-reads.Asked, look-reads.Learnt, stops-at-reads.Asked, stops-at-reads.Learnt, repeated-reads.Asked, repeated-reads.Learnt, sequence-reads.Asked, sequence-reads.Learnt, start-at-reads.Asked, start-at-reads.Learnt, emit-repeated-below t, emit-repeated.Post, emit-sequence-below t, emit-sequence.Post) (emit-sequence-at t) emit-sequence.Post
-emit-sequence-same-length t c = c .before .before .emit-sequence .kept .1 .1 .1 .0 ∙ c .before .before .before .before .before .before .emit-repeated .kept .1 .1 .1 .0
-
-emit-sequence-returns-4 : (t : ℕ) → emit-sequence-lts.Need-returns-4 (look-reads.Asked, look-reads.Learnt, stops-at-reads.Asked, stops-at-reads.Learnt, repeated-reads.Asked, repeated-reads.Learnt, sequence-reads.Asked, sequence-reads.Learnt, start-at-reads.Asked, start-at-reads.Learnt, emit-repeated-below t, emit-repeated.Post, emit-sequence-below t, emit-sequence.Post) (emit-sequence-at t) emit-sequence.Post
-emit-sequence-returns-4 t c =
-    let a = c .before .before .before .before .before .before .before .before .before .before .before .before .before .before .before .before .before .before .before .before .before .before .args in let s = a .s .now in let d = a .depth in let i = a .at in let h = c .before .before .before .before .before .before .before .before .before .before .before .before .before .before .before .before .before .before .before .before .before .before .pre .1 .0 in let m = c .before .before .before .before .before .before .before .before .before .before .before .before .before .before .before .before .before .before .before .before .before .before .pre .1 .3 in let zz = c .before .before .before .before .before .before .before .before .before .before .before .before .before .before .before .before .before .before .before .before .before .before .pre .1 .2 in let b = subst (λ (n : ℕ). stops n ≡ false) (c .before .before .before .before .before .before .before .before .before .before .before .before .before .before .before .before .before .before .before .look .ensures) (sym (c .before .before .before .before .before .before .before .before .before .before .before .before .before .before .before .before .before .before .stops-at .ensures) ∙ c .before .before .before .before .before .before .before .before .before .before .before .before .before .before .before .before .before .if1 .left) in let v = c .before .before .before .before .before .before .before .before .before .before .before .before .before .before .first .given .0 in let q = sym (c .before .before .before .before .before .before .before .before .before .before .before .before .before .before .first .given .1) ∙ c .before .before .before .before .before .before .before .before .before .before .before .before .before .before .before .before .repeated .ensures in let g = far s d i h piece (v .0) (v .1 .0) q in let x₁ = is-inv (read s piece d i) (v .0) (v .1 .0) q in let w = c .before .before .before .before .before .before .before .before .before .before .rest .given .0 in let q′ = sym (c .before .before .before .before .before .before .before .before .before .before .rest .given .1) ∙ c .before .before .before .before .before .before .before .before .before .before .before .before .sequence .ensures in let x₂ = is-inv (read s seq d (v .0)) (w .0) (w .1 .0) q′ in let x = seq-is s d i h b (v .0) (v .1 .0) q (w .0) (w .1 .0) q′ in
-    wrote-whole _ _ _ _ _ _ (seq-coded (read s seq d i) (read s piece d i) (read s seq d (v .0)) (inv (read s piece d i) q .pat) (inv (read s seq d (v .0)) q′ .pat) x₁ x₂ (a .n) (a .f) (v .1 .0 .size) (w .1 .0 .size) (sized-of (read s piece d i) q) (sized-of (read s seq d (v .0)) q′) x)
-    (chained _ _ _ _ _ _ _ _ (wrote-whole _ _ _ _ _ _ (ap (λ (j : ℕ). coded (read s piece d i) (a .n) j) (sym (c .before .before .before .before .before .before .before .before .start-at .ensures))) (c .before .before .before .before .before .before .emit-repeated .ensures)) (c .before .before .emit-sequence .ensures))
+emit-sequence-loop-again : (t : ℕ) → emit-sequence-lts.Need-loop-again (sequence-reads.Asked, sequence-reads.Learnt, look-reads.Asked, look-reads.Learnt, stops-at-reads.Asked, stops-at-reads.Learnt, repeated-reads.Asked, repeated-reads.Learnt, start-at-reads.Asked, start-at-reads.Learnt, emit-repeated-below t, emit-repeated.Post) (emit-sequence-at t) emit-sequence.Post emit-sequence-Inv-loop emit-sequence-μ-loop
+emit-sequence-loop-again t c = let a = c .before .before .before .before .before .before .before .before .before .before .before .before .before .before .before .before .before .before .before .before .before .args in let s = a .s .now in let d = a .depth in let j = c .before .before .before .before .before .before .before .before .before .before .before .before .before .loop .i in let p = c .before .before .before .before .before .before .before .before .before .before .before .before .before .loop .inv in let h = p .within in let z = c .before .before .before .before .before .before .before .before .before .before .before .before .before .before .before .before .before .before .before .before .before .pre .1 .2 in let v = c .before .before .before .before .before .before .before .one .given .0 in let q = sym (c .before .before .before .before .before .before .before .one .given .1) ∙ c .before .before .before .before .before .before .before .before .before .repeated .ensures in let g = far s d j h piece (v .0) (v .1 .0) q in let b = subst (λ (n : ℕ). stops n ≡ false) (c .before .before .before .before .before .before .before .before .before .before .before .before .look .ensures) (sym (c .before .before .before .before .before .before .before .before .before .before .before .stops-at .ensures) ∙ c .before .before .before .before .before .before .before .before .before .before .if1 .left) in seq-sent p b (v .0) (v .1 .0) q _ (c .before .before .before .before .start-at .ensures) _ _ (c .before .before .emit-repeated .ensures)
 
 pub +emit-alternatives+emit-atomic+emit-repeated+emit-sequence-spec : {M : Type 1} → statement M
 +emit-alternatives+emit-atomic+emit-repeated+emit-sequence-spec =
@@ -445,34 +510,36 @@ pub +emit-alternatives+emit-atomic+emit-repeated+emit-sequence-spec : {M : Type 
     μ-emit-atomic
     μ-emit-repeated
     μ-emit-sequence
-    (λ t. emit-alternatives-lts.spec (sequence-reads.Asked, sequence-reads.Learnt, look-reads.Asked, look-reads.Learnt, emit-sequence-below t, emit-sequence.Post, alternatives-reads.Asked, alternatives-reads.Learnt, start-at-reads.Asked, start-at-reads.Learnt, put-fork-reads.Asked, put-fork-reads.Learnt, emit-alternatives-below t, emit-alternatives.Post)
+    (λ t. emit-alternatives-lts.spec (alternatives-reads.Asked, alternatives-reads.Learnt, sequence-reads.Asked, sequence-reads.Learnt, look-reads.Asked, look-reads.Learnt, emit-sequence-below t, emit-sequence.Post, start-at-reads.Asked, start-at-reads.Learnt, put-fork-reads.Asked, put-fork-reads.Learnt)
     (emit-alternatives-at t)
     emit-alternatives.Post
-    (emit-alternatives-sequence-requires t)
-    (emit-alternatives-enum-known-first t)
+    emit-alternatives-Inv-loop
+    emit-alternatives-μ-loop
+    (emit-alternatives-alternatives-requires t)
+    (emit-alternatives-enum-known-whole t)
     (emit-alternatives-returns t)
-    (emit-alternatives-look-requires t)
-    (emit-alternatives-emit-sequence-requires t)
+    (emit-alternatives-add-last t)
+    (emit-alternatives-loop-holds t)
+    (emit-alternatives-sequence-requires t)
+    (emit-alternatives-enum-known-one t)
     (emit-alternatives-same-length t)
     (emit-alternatives-returns-2 t)
-    (emit-alternatives-add-alternatives t)
-    (emit-alternatives-alternatives-requires t)
-    (emit-alternatives-enum-known-rest t)
+    (emit-alternatives-look-requires t)
+    (emit-alternatives-emit-sequence-requires t)
+    (emit-alternatives-same-length-2 t)
     (emit-alternatives-returns-3 t)
     (emit-alternatives-add-start-at t)
     (emit-alternatives-start-at-requires t)
-    (emit-alternatives-add-start-at-2 t)
-    (emit-alternatives-add-start-at-3 t)
+    (emit-alternatives-add-next t)
+    (emit-alternatives-add-next-2 t)
+    (emit-alternatives-sub-start-at t)
     (emit-alternatives-start-at-requires-2 t)
     (emit-alternatives-put-fork-requires t)
     (emit-alternatives-add-emit-sequence t)
     (emit-alternatives-emit-sequence-requires-2 t)
-    (emit-alternatives-add-emit-alternatives t)
-    (emit-alternatives-add-emit-alternatives-2 t)
-    (emit-alternatives-add-emit-alternatives-3 t)
-    (emit-alternatives-emit-alternatives-requires t)
-    (emit-alternatives-same-length-2 t)
-    (emit-alternatives-returns-4 t))
+    (emit-alternatives-add-i t)
+    (emit-alternatives-loop-less t)
+    (emit-alternatives-loop-again t))
     (λ t. emit-atomic-lts.spec (look-reads.Asked, look-reads.Learnt, emit-lone-reads.Asked, emit-lone-reads.Learnt, alternatives-reads.Asked, alternatives-reads.Learnt, emit-alternatives-below t, emit-alternatives.Post)
     (emit-atomic-at t)
     emit-atomic.Post
@@ -524,22 +591,27 @@ pub +emit-alternatives+emit-atomic+emit-repeated+emit-sequence-spec : {M : Type 
     (emit-repeated-emit-atomic-requires-4 t)
     (emit-repeated-same-length-4 t)
     (emit-repeated-returns-5 t))
-    λ t. emit-sequence-lts.spec (look-reads.Asked, look-reads.Learnt, stops-at-reads.Asked, stops-at-reads.Learnt, repeated-reads.Asked, repeated-reads.Learnt, sequence-reads.Asked, sequence-reads.Learnt, start-at-reads.Asked, start-at-reads.Learnt, emit-repeated-below t, emit-repeated.Post, emit-sequence-below t, emit-sequence.Post)
+    λ t. emit-sequence-lts.spec (sequence-reads.Asked, sequence-reads.Learnt, look-reads.Asked, look-reads.Learnt, stops-at-reads.Asked, stops-at-reads.Learnt, repeated-reads.Asked, repeated-reads.Learnt, start-at-reads.Asked, start-at-reads.Learnt, emit-repeated-below t, emit-repeated.Post)
     (emit-sequence-at t)
     emit-sequence.Post
+    emit-sequence-Inv-loop
+    emit-sequence-μ-loop
+    (emit-sequence-sequence-requires t)
+    (emit-sequence-enum-known-whole t)
+    (emit-sequence-returns t)
+    (emit-sequence-add-last t)
+    (emit-sequence-loop-holds t)
     (emit-sequence-look-requires t)
     (emit-sequence-stops-at-requires t)
-    (emit-sequence-returns t)
-    (emit-sequence-repeated-requires t)
-    (emit-sequence-enum-known-first t)
+    (emit-sequence-same-length t)
     (emit-sequence-returns-2 t)
-    (emit-sequence-sequence-requires t)
-    (emit-sequence-enum-known-rest t)
+    (emit-sequence-repeated-requires t)
+    (emit-sequence-enum-known-one t)
+    (emit-sequence-same-length-2 t)
     (emit-sequence-returns-3 t)
-    (emit-sequence-add-start-at t)
+    (emit-sequence-add-next t)
+    (emit-sequence-sub-start-at t)
     (emit-sequence-start-at-requires t)
     (emit-sequence-emit-repeated-requires t)
-    (emit-sequence-add-emit-sequence t)
-    (emit-sequence-emit-sequence-requires t)
-    (emit-sequence-same-length t)
-    (emit-sequence-returns-4 t)
+    (emit-sequence-loop-less t)
+    (emit-sequence-loop-again t)

@@ -1,5 +1,6 @@
 -- `ride::blocks::obey_block` meets its contract. Assumes nothing.
-use Rattle.ride.proofs.Blockwise.{past-bank, downward, no-misfit, blocked-none, blocked-done}
+use Rattle.ride.proofs.Blockwise.{no-misfit, blocked-past, blocked-down, blocked-done}
+use native.Mathlib.Omega.{arith}
 use borrow.Author.Needs.{needs}
 use Rattle.ride.proofs.blocks.obey_block.Statement.{statement}
 use Rattle.ride.proofs.blocks.obey_block.Tie as tie
@@ -14,10 +15,10 @@ add-if1 : tie.Need-add-if1
 add-if1 c = search needs
 
 returns : tie.Need-returns
-returns c = blocked-none _ _ _ (past-bank _ _ _ _ (c .if1 .taken))
+returns c = blocked-past (c .before .args .w) (c .before .args .place) (c .before .args .bank .now) (omega arith)
 
 returns-2 : tie.Need-returns-2
-returns-2 c = blocked-none _ _ _ (downward _ _ _ _ (c .before .if1 .left) (c .if2 .taken))
+returns-2 c = blocked-down (c .before .before .args .w) (c .before .before .args .place) (c .before .before .args .bank .now) (omega arith) (omega arith)
 
 shift-requires : tie.Need-shift-requires
 shift-requires c κs = search needs

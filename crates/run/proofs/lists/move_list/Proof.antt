@@ -1,4 +1,4 @@
--- `ride::move_list` meets its contract: what is left to carry out, on the bank so far, is the whole. Assumes nothing.
+-- `run::lists::move_list` meets its contract: what is left to carry out, on the bank so far, is the whole. Assumes nothing.
 use Prim.Native.Nat.{_-_}
 use mathlib.Core.Path.{_≡_, refl, sym, _∙_}
 use native.Mathlib.Omega.{arith}
@@ -11,10 +11,10 @@ use mir.ValLaws.{toZ-ofZ}
 use Rattle.ground.proofs.Places.{place-fits}
 use Rattle.card.specs.Decode.{cmdsAt}
 use Rattle.card.proofs.Laws.{move-facts, put-facts}
 use Rattle.run.specs.Carry.{carry}
 use Rattle.run.proofs.Carrying.{carry-move, carry-put, carry-stop}
-use Rattle.ride.proofs.move_list.Statement.{statement}
-use Rattle.ride.proofs.move_list.Tie as tie
+use Rattle.run.proofs.lists.move_list.Statement.{statement}
+use Rattle.run.proofs.lists.move_list.Tie as tie
 
 abbrev Inv-loop : tie.InvT-loop
 Inv-loop s at place old bank₀ v i₀ bank i = carry (cmdsAt s i) place old bank ≡ carry (cmdsAt s at) place old bank₀

@@ -1,9 +1,9 @@
--- `ride::imaging::alone` meets its contract. Assumes nothing.
+-- `run::lists::alone` meets its contract. Assumes nothing.
 use mathlib.Core.Path.{sym, _∙_}
-use Rattle.ride.proofs.Entries.{alone-stop, alone-move, alone-put}
+use Rattle.run.proofs.Pairing.{alone-stop, alone-move, alone-put}
 use borrow.Author.Needs.{needs}
-use Rattle.ride.proofs.imaging.alone.Statement.{statement}
-use Rattle.ride.proofs.imaging.alone.Tie as tie
+use Rattle.run.proofs.lists.alone.Statement.{statement}
+use Rattle.run.proofs.lists.alone.Tie as tie
 
 read-cmd-requires : tie.Need-read-cmd-requires
 read-cmd-requires c κs = search needs
