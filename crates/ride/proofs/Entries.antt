@@ -6,8 +6,9 @@ use mathlib.Core.Path.{_≡_, refl, sym, ap, ap₂, _∙_, subst}
 use mathlib.Core.Bool.{Bool, true, false}
 use mathlib.Core.Logic.{_⊎_, inl, inr}
 use mathlib.Core.List.{List, [], _∷_, _++_}
+use lib.Dec.{ltb}
 use Rattle.ground.specs.Pick.{pick}
-use Rattle.ground.proofs.Picks.{picked, passed}
+use Rattle.ground.proofs.Picks.{picked, passed, pick-lt, pick-not-lt}
 use Rattle.card.specs.Table.{Cmd, move, put}
 use Rattle.card.specs.Decode.{cmdAt, cmdsAt, rowAt}
 use Rattle.card.specs.declared.Order.the-variants.{Move, Put, Stop}
@@ -131,14 +132,16 @@ module _ (s : List ℕ) (i : ℕ) where
   sorted : (l : List Cmd) → cmdsAt s i ≡ l → (k n : ℕ) → k ≡ listKind l → n ≡ points l i → Sorted s i k n
   sorted l e k n f g = record { kind = f ∙ sym (ap listKind e); spot = g ∙ sym (ap (λ (x : List Cmd). points x i) e) }
 
-  pub sort-stop : cmdAt s i ≡ Stop → Sorted s i 0 0
-  sort-stop e = sorted [] (cmds-step s i Stop e) 0 0 refl refl
+  pub sort-stop : cmdAt s i ≡ Stop → Sorted s i 0 64
+  sort-stop e = sorted [] (cmds-step s i Stop e) 0 64 refl refl
 
   -- no block
-  sort-plain : (c : Cmd) (l : List Cmd) → cmdsAt s i ≡ c ∷ l → isBlock (c ∷ l) ≡ false → Sorted s i (pick (allSets (c ∷ l)) 1 2) i
-  sort-plain c l e h = sorted (c ∷ l) e (pick (allSets (c ∷ l)) 1 2) i (sym (passed 3 (pick (allSets (c ∷ l)) 1 2) h)) (sym (passed (ofList blockBits (c ∷ l)) i h))
+  sort-plain : (c : Cmd) (l : List Cmd) → cmdsAt s i ≡ c ∷ l → isBlock (c ∷ l) ≡ false → Sorted s i (pick (allSets (c ∷ l)) 2 3) i
+  sort-plain c l e h =
+      sorted (c ∷ l) e (pick (allSets (c ∷ l)) 2 3) i
+      (sym (passed (pick (ltb (ofList blockBits (c ∷ l)) 64) 0 1) (pick (allSets (c ∷ l)) 2 3) h)) (sym (passed (ofList blockBits (c ∷ l)) i h))
 
-  pub sort-move : (t f : ℕ) → cmdAt s i ≡ Move t f → Sorted s i 2 i
+  pub sort-move : (t f : ℕ) → cmdAt s i ≡ Move t f → Sorted s i 3 i
   unfolding pick isThat
   sort-move t f e = sort-plain (move t f) (cmdsAt s (i + 3)) (cmds-step s i (Move t f) e) refl
 
@@ -152,48 +155,59 @@ module _ (s : List ℕ) (i : ℕ) where
         x .stops (cmdsAt s (i + 2))
         (sym (x .here ∙ ap (λ (m : ℕ). puts a m ++ cmdsAt s mid) z) ∙ begins ∙ ap (λ (t : ℕ). put t ∷ cmdsAt s (i + 2)) (let h : a ≡ a + k = omega arith in h))
 
-    sort-other : (32 < k) ⊎ ((a + k < f) ⊎ (cmdsAt s end ≡ [] → ⊥)) → {m p : ℕ} → m ≡ pick (allSets (cmdsAt s i)) 1 2 → p ≡ i → Sorted s i m p
+    sort-other : (32 < k) ⊎ ((a + k < f) ⊎ (cmdsAt s end ≡ [] → ⊥)) → {m p : ℕ} → m ≡ pick (allSets (cmdsAt s i)) 2 3 → p ≡ i → Sorted s i m p
     sort-other h {m} e g =
-        let e′ : pick (allSets (put a ∷ cmdsAt s (i + 2))) 1 2 ≡ m = ap (λ (l : List Cmd). pick (allSets l) 1 2) (sym begins) ∙ sym e in
+        let e′ : pick (allSets (put a ∷ cmdsAt s (i + 2))) 2 3 ≡ m = ap (λ (l : List Cmd). pick (allSets l) 2 3) (sym begins) ∙ sym e in
         subst (λ (q : ℕ). Sorted s i m q) (sym g) (subst (λ (q : ℕ). Sorted s i q i) e′
         (sort-plain (put a) (cmdsAt s (i + 2)) begins
         (sym (ap isBlock begins) ∙ no-block a k f n (x .here) (x .stops) (y .here) (y .stops) o (ap firstTo begins) h)))
 
-    pub sort-many : 32 < k → {m p : ℕ} → (m ≡ pick (allSets (cmdsAt s i)) 1 2) × (p ≡ i) → Sorted s i m p
+    pub sort-many : 32 < k → {m p : ℕ} → (m ≡ pick (allSets (cmdsAt s i)) 2 3) × (p ≡ i) → Sorted s i m p
     sort-many h e = sort-other (inl h) (e .0) (e .1)
 
-    pub sort-down : a + k < f → {m p : ℕ} → (m ≡ pick (allSets (cmdsAt s i)) 1 2) × (p ≡ i) → Sorted s i m p
+    pub sort-down : a + k < f → {m p : ℕ} → (m ≡ pick (allSets (cmdsAt s i)) 2 3) × (p ≡ i) → Sorted s i m p
     sort-down h e = sort-other (inr (inl h)) (e .0) (e .1)
 
-    pub sort-mixed : {r : Bool} → Alone s end r → r ≡ false → {m p : ℕ} → (m ≡ pick (allSets (cmdsAt s i)) 1 2) × (p ≡ i) → Sorted s i m p
+    pub sort-mixed : {r : Bool} → Alone s end r → r ≡ false → {m p : ℕ} → (m ≡ pick (allSets (cmdsAt s i)) 2 3) × (p ≡ i) → Sorted s i m p
     sort-mixed o z e = sort-other (inr (inr (o .some z))) (e .0) (e .1)
 
-    pub sort-block : k ≤ 32 → f ≤ a + k → {r : Bool} → Alone s end r → r ≡ true → Sorted s i 3 (blockBits a k f n)
-    sort-block h u r z =
-        let e = r .none z in
-        let t = is-block a k f n (x .here) (x .stops) (y .here) (y .stops) o e a-set h (y .inside .0) u in
-        let w : ofList blockBits (cmdsAt s i) ≡ blockBits a k f n =
-        ap (ofList blockBits) (whole a k f n (x .here) (x .stops) (y .here) (y .stops) o e)
-        ∙ of-block blockBits a k f n a-set (no-from a k f n (x .here) (x .stops) (y .here) (y .stops) o e) in
-        let q : isBlock (put a ∷ cmdsAt s (i + 2)) ≡ true = sym (ap isBlock begins) ∙ t in
-        sorted (put a ∷ cmdsAt s (i + 2)) begins 3 (blockBits a k f n)
-        (sym (picked 3 (pick (allSets (put a ∷ cmdsAt s (i + 2))) 1 2) q))
-        (sym w ∙ ap (ofList blockBits) begins ∙ sym (picked (ofList blockBits (put a ∷ cmdsAt s (i + 2))) i q))
+    -- a block
+    module _ (few : k ≤ 32) (up : f ≤ a + k) {r : Bool} (d : Alone s end r) (z : r ≡ true) where
+      abbrev bits : ℕ
+      bits = blockBits a k f n
 
-kind-of-tests : (b c : Bool) → pick b 3 (pick c 1 2) ≤ 3
+      sort-bits : {m : ℕ} → m ≡ pick (ltb bits 64) 0 1 → Sorted s i m bits
+      sort-bits {m} g =
+          let e = d .none z in
+          let t = is-block a k f n (x .here) (x .stops) (y .here) (y .stops) o e a-set few (y .inside .0) up in
+          let q : isBlock (put a ∷ cmdsAt s (i + 2)) ≡ true = sym (ap isBlock begins) ∙ t in
+          let w : ofList blockBits (cmdsAt s i) ≡ bits =
+          ap (ofList blockBits) (whole a k f n (x .here) (x .stops) (y .here) (y .stops) o e)
+          ∙ of-block blockBits a k f n a-set (no-from a k f n (x .here) (x .stops) (y .here) (y .stops) o e) in
+          let v : bits ≡ ofList blockBits (put a ∷ cmdsAt s (i + 2)) = sym w ∙ ap (ofList blockBits) begins in
+          sorted (put a ∷ cmdsAt s (i + 2)) begins m bits (g ∙ ap (λ (b : ℕ). pick (ltb b 64) 0 1) v ∙ sym (picked _ _ q)) (v ∙ sym (picked _ i q))
+
+      pub sort-one : bits < 64 → Sorted s i 0 bits
+      sort-one l = sort-bits (sym (pick-lt bits 64 0 1 l))
+
+      pub sort-block : 64 ≤ bits → Sorted s i 1 bits
+      sort-block l = sort-bits (sym (pick-not-lt bits 64 0 1 l))
+
+kind-of-tests : (b t c : Bool) → pick b (pick t 0 1) (pick c 2 3) ≤ 3
 unfolding pick
-kind-of-tests true c = omega arith
-kind-of-tests false true = omega arith
-kind-of-tests false false = omega arith
+kind-of-tests true true c = omega arith
+kind-of-tests true false c = omega arith
+kind-of-tests false t true = omega arith
+kind-of-tests false t false = omega arith
 
 pub kind-few : (l : List Cmd) → listKind l ≤ 3
 kind-few [] = omega arith
-kind-few (c ∷ l) = kind-of-tests (isBlock (c ∷ l)) (allSets (c ∷ l))
+kind-few (c ∷ l) = kind-of-tests (isBlock (c ∷ l)) (ltb (ofList blockBits (c ∷ l)) 64) (allSets (c ∷ l))
 
 -- ---- the entry of the row at a place
 
 module _ (s : List ℕ) (at : ℕ) where
-  pub entry-ends : rowAt s at ≡ Ends → 0 ≡ entryAt s at
+  pub entry-ends : rowAt s at ≡ Ends → 64 ≡ entryAt s at
   unfolding entryAt
   entry-ends e = sym (ap (λ (x : RowItem). rowEntry x (cmdsAt s (at + 4)) (at + 4)) e)
 

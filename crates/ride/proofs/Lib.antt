@@ -1,8 +1,10 @@
 pub mod Blockwise
 pub mod Sorting
+pub mod Ordered
 pub mod Obeying
 pub mod Telling
 pub mod Riding
+pub mod Lines
 pub mod Answering
 pub mod Spots
 pub mod Entries

@@ -1,13 +1,13 @@
 -- The image that mounting writes of a taken table: each entry says its byte's row. Assumes nothing.
-use Prim.Native.Nat.{ℕ, zero, suc, _+_, _<_, _≤_}
+use Prim.Native.Nat.{ℕ, zero, suc, _+_, _*_, _/_, _%_, _<_, _≤_}
 use native.Mathlib.Omega.{arith}
-use mathlib.Core.Path.{_≡_, refl, sym, ap, _∙_, subst}
+use mathlib.Core.Path.{_≡_, refl, sym, ap, ap₂, _∙_, subst}
 use mathlib.Core.Bool.{Bool, true, false}
 use mathlib.Core.Logic.{_⊎_, inl, inr}
 use mathlib.Core.List.{List, [], _∷_}
 use lib.ListN.{length}
-use lib.Dec.{leb}
-use borrow.Author.Tests.{lt-leb, leb-true, leb-false}
+use lib.Dec.{leb, ltb}
+use borrow.Author.Tests.{lt-leb, leb-true, leb-false, ltb-true}
 use Rattle.ground.specs.Pick.{pick}
 use Rattle.card.specs.Table.{Cmd, move, put, Row, Sets}
 use Rattle.card.specs.Run.{rowFor, noRow}
@@ -15,17 +15,17 @@ use Rattle.card.specs.Decode.{cmdsAt, afterAt, rowAt, rowsAt}
 use Rattle.card.specs.declared.RowItem.{RowItem}
 use Rattle.card.specs.declared.RowItem.the-variants.{Leads, Ends}
 use Rattle.ground.proofs.Tests.{lt-or-le}
+use Rattle.ground.proofs.Picks.{by-test}
 use Rattle.card.proofs.Laws.{at-end}
 use Rattle.card.proofs.Rows.{row-whole, no-line, row-ends, row-here, row-later}
 use Rattle.run.proofs.Carrying.{no-cmds}
-use Rattle.ride.specs.Image.{block, misfit, blockBits, ofBits, firstTo, firstFrom, leading, behind, ofList, isBlock, nextOf, kindOf, listOf, entry, allSets, listKind, points, spotAt, entryAt}
+use Rattle.ride.specs.Image.{block, misfit, blockBits, ofBits, firstTo, firstFrom, leading, behind, ofList, isBlock, nextOf, kindOf, cellOf, listOf, entry, allSets, listKind, points, spotAt, entryAt}
 use Rattle.ride.specs.Ride.{onlySets, orders, listless}
 use Rattle.ride.proofs.Spots.{after-past, spot-ends, spot-here, spot-later}
 use Rattle.ride.proofs.Entries.{entry-ends, entry-leads}
-use Rattle.ride.proofs.Blockwise.{in-bank, bits-fit, bits-out}
+use Rattle.ride.proofs.Blockwise.{ap₄, in-bank, bits-fit, bits-out}
 use Rattle.ride.proofs.Sorting.{That, that-is, from-low}
-use Rattle.ride.proofs.Obeying.{block-listed, block-ordered, list-listed, sets-ordered, all-ordered}
-use Rattle.ride.proofs.Riding.{stay-orders, stay-list}
+use Rattle.ride.proofs.Ordered.{none-listed, none-ordered, one-ordered, block-listed, block-ordered, list-listed, sets-ordered, all-ordered}
 
 -- ---- SETs only
 
@@ -50,17 +50,31 @@ list-inside s at c l e = by (lt-or-le at (length s))
 -- ---- the numbers of an entry come out of their bits
 
 module _ (next kind at : ℕ) where
-  pub entry-next : next < 128 → nextOf (entry next kind at) ≡ next
+  entry-next : next < 128 → nextOf (entry next kind at) ≡ next
   unfolding entry
   entry-next h = omega arith
 
-  pub entry-kind : kind < 4 → kindOf (entry next kind at) ≡ kind
+  entry-kind : kindOf (entry next kind at) ≡ kind
   unfolding entry
-  entry-kind h = omega arith
+  entry-kind = omega arith
 
-  pub entry-at : kind < 4 → at < 8388608 → listOf (entry next kind at) ≡ at
+  other-kind : (n : ℕ) → (kind ≡ n → ⊥) → kindOf (entry next kind at) ≡ n → ⊥
+  other-kind n h e = h (sym entry-kind ∙ e)
+
+  entry-at : at < 8388608 → listOf (entry next kind at) ≡ at
   unfolding entry
-  entry-at h k = omega arith
+  entry-at l =
+      let low : entry next kind at % 256 ≡ at % 256 = omega arith in
+      let high : entry next kind at / 32768 ≡ at / 256 % 32768 + 32768 * kind = omega arith in
+      let mid : (at / 256 % 32768 + 32768 * kind) % 32768 ≡ at / 256 = omega arith in
+      ap₂ (λ (x y : ℕ). x + 256 * y) low (ap (λ (n : ℕ). n % 32768) high ∙ mid) ∙ whole at
+    where
+      whole : (n : ℕ) → n % 256 + 256 * (n / 256) ≡ n
+      whole n = omega arith
+
+  entry-cell : at < 128 → cellOf (entry next kind at) ≡ at
+  unfolding entry
+  entry-cell l = omega arith
 
 -- ---- an entry says a row
 
@@ -73,47 +87,41 @@ module _ (s : List ℕ) (next at : ℕ) (small : next < 128) (low : at < 8388608
   abbrev Says : ℕ → List Cmd → Type 0
   Says e l = SaysRow s e (record { lo = 0; hi = 0; next = next; cmds = l })
 
-  -- a list, of kind 1 or 2
+  -- a list, of kind 2 or 3
   module _ (c : Cmd) (l : List Cmd) (e : cmdsAt s at ≡ c ∷ l) where
-    listed-at : (k : ℕ) → k < 3 → (k ≡ 0 → ⊥) → listless s (entry next k at) ≡ false
-    listed-at k few some =
+    listed-at : (k : ℕ) → 2 ≤ k → listless s (entry next k at) ≡ false
+    listed-at k h =
         let i = list-inside s at c l e in
-        let h = entry-kind next k at (omega arith) in
-        list-listed s (entry next k at) (λ z. some (sym h ∙ z)) (λ z. omega arith) false
-        (lt-leb (length s) (listOf (entry next k at)) (omega (arith, entry-at next k at (omega arith) low)))
+        list-listed s (entry next k at) (other-kind next k at 0 (λ z. omega arith)) (other-kind next k at 1 (λ z. omega arith)) false
+        (lt-leb (length s) (listOf (entry next k at)) (omega (arith, entry-at next k at low)))
 
-    says-sets : allSets (c ∷ l) ≡ true → Says (entry next 1 at) (c ∷ l)
+    says-sets : allSets (c ∷ l) ≡ true → Says (entry next 2 at) (c ∷ l)
     says-sets h = record {
-      next = entry-next next 1 at small;
-      orders =
-          let k = entry-kind next 1 at (omega arith) in
-          sets-ordered s (entry next 1 at) (λ z. omega arith) (λ z. omega arith) k
-          ∙ ap (λ (n : ℕ). onlySets (cmdsAt s n)) (entry-at next 1 at (omega arith) low) ∙ ap onlySets e ∙ all-whole (c ∷ l) h;
-      listed = listed-at 1 (omega arith) (λ z. omega arith);
-    }
-
-    says-any : Says (entry next 2 at) (c ∷ l)
-    says-any = record {
       next = entry-next next 2 at small;
       orders =
-          let k = entry-kind next 2 at (omega arith) in
-          all-ordered s (entry next 2 at) (λ z. omega arith) (λ z. omega arith) (λ z. omega arith)
-          ∙ ap (cmdsAt s) (entry-at next 2 at (omega arith) low) ∙ e;
-      listed = listed-at 2 (omega arith) (λ z. omega arith);
+          sets-ordered s (entry next 2 at) (entry-kind next 2 at)
+          ∙ ap (λ (n : ℕ). onlySets (cmdsAt s n)) (entry-at next 2 at low) ∙ ap onlySets e ∙ all-whole (c ∷ l) h;
+      listed = listed-at 2 (omega arith);
     }
 
-    says-either : (b : Bool) → allSets (c ∷ l) ≡ b → Says (entry next (pick b 1 2) at) (c ∷ l)
+    says-any : Says (entry next 3 at) (c ∷ l)
+    says-any = record {
+      next = entry-next next 3 at small;
+      orders =
+          all-ordered s (entry next 3 at) (other-kind next 3 at 0 (λ z. omega arith)) (other-kind next 3 at 1 (λ z. omega arith)) (other-kind next 3 at 2 (λ z. omega arith))
+          ∙ ap (cmdsAt s) (entry-at next 3 at low) ∙ e;
+      listed = listed-at 3 (omega arith);
+    }
+
+    says-either : (b : Bool) → allSets (c ∷ l) ≡ b → Says (entry next (pick b 2 3) at) (c ∷ l)
     unfolding pick
     says-either true h = says-sets h
     says-either false h = says-any
 
-  -- a block: its numbers come out of their bits
+  -- a block: its numbers come out of their bits; below 64 they are the register of one SET
   module _ (l : List Cmd) (a k f n : ℕ) (b : That l a k f n) (held : f < 64) where
     abbrev word : ℕ
-    word = entry next 3 (blockBits a k f n)
-
-    kind : kindOf word ≡ 3
-    kind = entry-kind next 3 (blockBits a k f n) (omega arith)
+    word = entry next 1 (blockBits a k f n)
 
     bits : {A : Type 0} (g : (a k s n : ℕ) → A) → ofBits g (listOf word) ≡ g a k f n
     bits g =
@@ -121,40 +129,70 @@ module _ (s : List ℕ) (next at : ℕ) (small : next < 128) (low : at < 8388608
         let some : 1 ≤ k = omega (arith, b .some) in
         let first : a < 64 = omega arith in
         let more : n < 64 = omega arith in
-        ap (ofBits g) (entry-at next 3 (blockBits a k f n) (omega arith) (bits-fit a k f n first some (b .few) more held))
+        ap (ofBits g) (entry-at next 1 (blockBits a k f n) (bits-fit a k f n first some (b .few) more held))
         ∙ bits-out g a k f n first some (b .few) more held
 
     says-block : Says word l
     says-block = record {
-      next = entry-next next 3 (blockBits a k f n) small;
-      orders = block-ordered s word (λ z. let h = kind in omega arith) kind ∙ bits block ∙ sym (b .is);
-      listed = block-listed s word (λ z. let h = kind in omega arith) kind ∙ bits misfit ∙ b .held;
+      next = entry-next next 1 (blockBits a k f n) small;
+      orders = block-ordered s word (entry-kind next 1 (blockBits a k f n)) ∙ bits block ∙ sym (b .is);
+      listed = block-listed s word (entry-kind next 1 (blockBits a k f n)) ∙ bits misfit ∙ b .held;
     }
 
-  plain : entry next 0 0 ≡ next
-  unfolding entry
-  plain = omega arith
+    one-set : blockBits a k f n < 64 → put (blockBits a k f n) ∷ [] ≡ block a k f n
+    unfolding blockBits
+    one-set h = ap (λ (t : ℕ). put t ∷ []) r ∙ ap₄ block refl x y z
+      where
+        r : blockBits a k f n ≡ a
+        r = omega (arith, b .some)
+
+        x : 1 ≡ k
+        x = omega (arith, b .some)
+
+        y : 0 ≡ f
+        y = omega (arith, b .some)
+
+        z : 0 ≡ n
+        z = omega (arith, b .some)
+
+    says-one : blockBits a k f n < 64 → Says (entry next 0 (blockBits a k f n)) l
+    says-one h =
+        let c = entry-cell next 0 (blockBits a k f n) (omega arith) in
+        record {
+          next = entry-next next 0 (blockBits a k f n) small;
+          orders =
+              one-ordered s (entry next 0 (blockBits a k f n)) (entry-kind next 0 (blockBits a k f n)) (omega arith)
+              ∙ ap (λ (t : ℕ). put t ∷ []) c ∙ one-set h ∙ sym (b .is);
+          listed = none-listed s (entry next 0 (blockBits a k f n)) (entry-kind next 0 (blockBits a k f n));
+        }
+
+    says-bits : Says (entry next (pick (ltb (blockBits a k f n) 64) 0 1) (blockBits a k f n)) l
+    says-bits =
+        by-test (λ (t : ℕ). Says (entry next t (blockBits a k f n)) l) (ltb (blockBits a k f n) 64) 0 1
+        (λ h. says-one (ltb-true (blockBits a k f n) 64 h)) (λ h. says-block)
 
   pub says-list : (l : List Cmd) → cmdsAt s at ≡ l → Says (entry next (listKind l) (points l at)) l
   unfolding pick
-  says-list [] e =
-      subst (λ (n : ℕ). Says n []) (sym plain)
-      (record { next = omega arith; orders = stay-orders s next small; listed = stay-list s next small })
+  says-list [] e = record {
+    next = entry-next next 0 64 small;
+    orders = none-ordered s (entry next 0 64) (entry-kind next 0 64) (omega (arith, entry-cell next 0 64 (omega arith)));
+    listed = none-listed s (entry next 0 64) (entry-kind next 0 64);
+  }
   says-list (c ∷ l) e = by (isBlock (c ∷ l)) refl
     where
       by : (t : Bool) → isBlock (c ∷ l) ≡ t
-          → Says (entry next (pick t 3 (pick (allSets (c ∷ l)) 1 2)) (pick t (ofList blockBits (c ∷ l)) at)) (c ∷ l)
+          → Says (entry next (pick t (pick (ltb (ofList blockBits (c ∷ l)) 64) 0 1) (pick (allSets (c ∷ l)) 2 3)) (pick t (ofList blockBits (c ∷ l)) at)) (c ∷ l)
       by true h =
           let b = that-is (c ∷ l) (firstTo (c ∷ l)) (leading (c ∷ l)) (firstFrom (behind (c ∷ l))) (length (behind (c ∷ l))) h in
-          says-block (c ∷ l) (firstTo (c ∷ l)) (leading (c ∷ l)) (firstFrom (behind (c ∷ l))) (length (behind (c ∷ l))) b
+          says-bits (c ∷ l) (firstTo (c ∷ l)) (leading (c ∷ l)) (firstFrom (behind (c ∷ l))) (length (behind (c ∷ l))) b
           (from-low (behind (c ∷ l)) (in-bank (firstTo (c ∷ l)) (leading (c ∷ l)) (firstFrom (behind (c ∷ l))) (length (behind (c ∷ l))) (b .held)))
       by false h = says-either c l e (allSets (c ∷ l)) refl
 
 -- ---- the entry of a byte's row
 
 module _ (s : List ℕ) (short : length s < 8388608) where
-  no-entry : SaysRow s 0 noRow
-  no-entry = record { next = refl; orders = stay-orders s 0 (omega arith); listed = stay-list s 0 (omega arith) }
+  no-entry : SaysRow s 64 noRow
+  no-entry = record { next = refl; orders = none-ordered s 64 refl (omega arith); listed = none-listed s 64 refl }
 
   -- a row that says the same but for its bounds
   bounds-free : {e : ℕ} (lo hi next : ℕ) (l : List Cmd)

@@ -1,24 +1,27 @@
--- The commands of an entry carried out: SETs alone, a block, a whole list, and what an entry asks for. Assumes nothing.
-use Prim.Native.Nat.{ℕ, _+_, _/_, _%_, _<_, _≤_}
+-- The commands of an entry carried out: SETs alone, a block, a whole list. Assumes nothing.
+use Prim.Native.Nat.{ℕ, zero, suc, _+_, _/_, _%_, _<_, _≤_}
 use native.Mathlib.Omega.{arith}
-use mathlib.Core.Path.{_≡_, refl, sym, ap, ap₂, _∙_}
+use native.Mathlib.Decide.{ℕ-discrete}
+use mathlib.Core.Path.{_≡_, refl, sym, ap, _∙_, subst}
 use mathlib.Core.Bool.{Bool, true, false}
-use mathlib.Core.List.{List, [], _∷_}
+use mathlib.Core.Logic.{_⊎_, inl, inr}
+use mathlib.Core.List.{List, [], _∷_, _++_}
 use lib.ListN.{length, set}
 use lib.IntN.{pos}
-use lib.Dec.{leb, eqb}
-use borrow.Author.Tests.{eq-eqb, ne-eqb, le-leb, lt-leb}
-use Rattle.ground.specs.Pick.{pick}
-use Rattle.card.specs.Table.{Cmd, put}
+use borrow.Author.Tests.{le-leb, lt-leb}
+use Rattle.ground.proofs.Tests.{lt-or-le}
+use Rattle.card.specs.Table.{Cmd, move, put}
 use Rattle.card.specs.Run.{Bank}
 use Rattle.card.specs.Decode.{cmdAt, cmdsAt}
 use Rattle.card.specs.declared.Order.the-variants.{Move, Put, Stop}
 use Rattle.card.proofs.Laws.{cmds-step}
 use Rattle.run.specs.Carry.{carry}
-use Rattle.ride.specs.Image.{block, misfit, ofBits, kindOf, listOf}
+use Rattle.run.proofs.Cells.{Sources, sources-at}
+use Rattle.ride.specs.Image.{puts, moves, block, misfit, ofBits, kindOf, cellOf, listOf}
 use Rattle.ride.specs.Ride.{onlySets, orders, listless}
 use Rattle.ride.specs.Need.{Blocked, Obeyed}
-use Rattle.ride.proofs.Blockwise.{ap₄, no-misfit}
+use Rattle.ride.proofs.Blockwise.{in-bank}
+use Rattle.ride.proofs.Ordered.{none-ordered, one-ordered, block-listed, block-ordered, list-listed, sets-ordered, all-ordered}
 
 -- ---- SETs alone
 
@@ -38,55 +41,7 @@ module _ (s : List ℕ) (i p : ℕ) (old cur : Bank) where
   unfolding carry
   sets-stop e = sym (ap rest (cmds-step s i Stop e))
 
--- ---- an entry
-
-module _ (s : List ℕ) (e : ℕ) where
-  pub listless-is : (a b c : Bool) → eqb (kindOf e) 0 ≡ a → eqb (kindOf e) 3 ≡ b → leb (length s) (listOf e) ≡ c → listless s e ≡ pick a false (pick b (ofBits misfit (listOf e)) c)
-  unfolding listless
-  listless-is a b c f g h = ap₂ (λ (x y : Bool). pick x false y) f (ap₂ (λ (x y : Bool). pick x (ofBits misfit (listOf e)) y) g h)
-
-  pub orders-are : (a b c : Bool) → eqb (kindOf e) 0 ≡ a → eqb (kindOf e) 3 ≡ b → eqb (kindOf e) 1 ≡ c
-      → orders s e ≡ pick a [] (pick b (ofBits block (listOf e)) (pick c (onlySets (cmdsAt s (listOf e))) (cmdsAt s (listOf e))))
-  unfolding orders
-  orders-are a b c f g h =
-      ap₂ (λ (x : Bool) (y : List Cmd). pick x [] y) f
-      (ap₂ (λ (x : Bool) (y : List Cmd). pick x (ofBits block (listOf e)) y) g
-      (ap (λ (x : Bool). pick x (onlySets (cmdsAt s (listOf e))) (cmdsAt s (listOf e))) h))
-
-  -- no commands
-  module _ (k : kindOf e ≡ 0) where
-    pub none-listed : listless s e ≡ false
-    unfolding pick
-    none-listed = listless-is true (eqb (kindOf e) 3) (leb (length s) (listOf e)) (eq-eqb (kindOf e) 0 k) refl refl
-
-    pub none-ordered : orders s e ≡ []
-    unfolding pick
-    none-ordered = orders-are true (eqb (kindOf e) 3) (eqb (kindOf e) 1) (eq-eqb (kindOf e) 0 k) refl refl
-
-  module _ (k : kindOf e ≡ 0 → ⊥) where
-    -- a block
-    module _ (h : kindOf e ≡ 3) where
-      pub block-listed : listless s e ≡ ofBits misfit (listOf e)
-      unfolding pick
-      block-listed = listless-is false true (leb (length s) (listOf e)) (ne-eqb (kindOf e) 0 k) (eq-eqb (kindOf e) 3 h) refl
-
-      pub block-ordered : orders s e ≡ ofBits block (listOf e)
-      unfolding pick
-      block-ordered = orders-are false true (eqb (kindOf e) 1) (ne-eqb (kindOf e) 0 k) (eq-eqb (kindOf e) 3 h) refl
-
-    -- a list
-    module _ (h : kindOf e ≡ 3 → ⊥) where
-      pub list-listed : (b : Bool) → leb (length s) (listOf e) ≡ b → listless s e ≡ b
-      unfolding pick
-      list-listed b l = listless-is false false b (ne-eqb (kindOf e) 0 k) (ne-eqb (kindOf e) 3 h) l
-
-      pub sets-ordered : kindOf e ≡ 1 → orders s e ≡ onlySets (cmdsAt s (listOf e))
-      unfolding pick
-      sets-ordered z = orders-are false false true (ne-eqb (kindOf e) 0 k) (ne-eqb (kindOf e) 3 h) (eq-eqb (kindOf e) 1 z)
-
-      pub all-ordered : (kindOf e ≡ 1 → ⊥) → orders s e ≡ cmdsAt s (listOf e)
-      unfolding pick
-      all-ordered z = orders-are false false false (ne-eqb (kindOf e) 0 k) (ne-eqb (kindOf e) 3 h) (ne-eqb (kindOf e) 1 z)
+-- ---- an entry that is not of kind 0
 
 module _ (s : List ℕ) (e p : ℕ) (old : Bank) where
   is-done : {new : Bank} → listless s e ≡ false → (l : List Cmd) → orders s e ≡ l → new ≡ carry l p old old → Obeyed s e p old new true
@@ -95,47 +50,72 @@ module _ (s : List ℕ) (e p : ℕ) (old : Bank) where
     past = λ z. let y : _≡_ {A = ℕ} 0 1 = cc in absurd (omega arith);
   }
 
-  pub obeyed-none : kindOf e ≡ 0 → Obeyed s e p old old true
-  unfolding carry
-  obeyed-none k = is-done (none-listed s e k) [] (none-ordered s e k) refl
+  pub obeyed-block : kindOf e ≡ 1 → {new : Bank} {r : Bool} → Blocked (listOf e) p old new r → Obeyed s e p old new r
+  obeyed-block k o = record {
+    done = λ z.
+        (block-listed s e k ∙ o .done z .0, o .done z .1 ∙ sym (ap (λ (x : List Cmd). carry x p old old) (block-ordered s e k)));
+    past = λ z. block-listed s e k ∙ o .past z;
+  }
 
-  module _ (k : kindOf e ≡ 0 → ⊥) where
-    module _ (h : kindOf e ≡ 3) where
-      pub obeyed-one : listOf e < 64 → Obeyed s e p old (set old (listOf e) (pos p)) true
-      unfolding carry
-      obeyed-one l =
-          is-done (block-listed s e k h ∙ ap₄ misfit a b c d ∙ no-misfit (listOf e) 1 0 0 (omega arith) (omega arith))
-          (put (listOf e) ∷ []) (block-ordered s e k h ∙ ap₄ block a b c d) refl
-        where
-          a : listOf e % 64 ≡ listOf e
-          a = omega arith
+  module _ (some : 1073741824 ≤ e) (n : kindOf e ≡ 1 → ⊥) where
+    no-one : kindOf e ≡ 0 → ⊥
+    no-one z = omega arith
 
-          b : listOf e / 64 % 32 + 1 ≡ 1
-          b = omega arith
+    pub obeyed-past : length s ≤ listOf e → {new : Bank} → Obeyed s e p old new false
+    obeyed-past l = record {
+      done = λ z. let y : _≡_ {A = ℕ} 0 1 = cc in absurd (omega arith);
+      past = λ _. list-listed s e no-one n true (le-leb (length s) (listOf e) l);
+    }
 
-          c : listOf e / 131072 ≡ 0
-          c = omega arith
+    module _ (l : listOf e < length s) where
+      inside : listless s e ≡ false
+      inside = list-listed s e no-one n false (lt-leb (length s) (listOf e) l)
 
-          d : listOf e / 2048 % 64 ≡ 0
-          d = omega arith
+      pub obeyed-sets : {new : Bank} → kindOf e ≡ 2 → new ≡ carry (onlySets (cmdsAt s (listOf e))) p old old → Obeyed s e p old new true
+      obeyed-sets h = is-done inside (onlySets (cmdsAt s (listOf e))) (sets-ordered s e h)
 
-      pub obeyed-block : {new : Bank} {r : Bool} → Blocked (listOf e) p old new r → Obeyed s e p old new r
-      obeyed-block o = record {
-        done = λ z.
-            (block-listed s e k h ∙ o .done z .0, o .done z .1 ∙ sym (ap (λ (x : List Cmd). carry x p old old) (block-ordered s e k h)));
-        past = λ z. block-listed s e k h ∙ o .past z;
-      }
+      pub obeyed-all : {new : Bank} → (kindOf e ≡ 2 → ⊥) → new ≡ carry (cmdsAt s (listOf e)) p old old → Obeyed s e p old new true
+      obeyed-all h = is-done inside (cmdsAt s (listOf e)) (all-ordered s e no-one n h)
 
-    module _ (n : kindOf e ≡ 3 → ⊥) where
-      pub obeyed-past : length s ≤ listOf e → {new : Bank} → Obeyed s e p old new false
-      obeyed-past l = record {
-        done = λ z. let y : _≡_ {A = ℕ} 0 1 = cc in absurd (omega arith);
-        past = λ _. list-listed s e k n true (le-leb (length s) (listOf e) l);
-      }
+-- ---- an entry's commands read registers alone
 
-      module _ (l : listOf e < length s) {new : Bank} where
-        pub obeyed-sets : kindOf e ≡ 1 → new ≡ carry (onlySets (cmdsAt s (listOf e))) p old old → Obeyed s e p old new true
-        obeyed-sets h = is-done (list-listed s e k n false (lt-leb (length s) (listOf e) l)) (onlySets (cmdsAt s (listOf e))) (sets-ordered s e k n h)
+pub sources-sets : (l : List Cmd) → Sources (onlySets l)
+sources-sets [] = tt
+sources-sets (move t f ∷ l) = tt
+sources-sets (put t ∷ l) = sources-sets l
 
-        pub obeyed-all : (kindOf e ≡ 1 → ⊥) → new ≡ carry (cmdsAt s (listOf e)) p old old → Obeyed s e p old new true
-        obeyed-all h = is-done (list-listed s e k n false (lt-leb (length s) (listOf e) l)) (cmdsAt s (listOf e)) (all-ordered s e k n h)
+sources-moves : (a f n : ℕ) → f + n ≤ 64 → Sources (moves a f n)
+sources-moves a f zero h = tt
+sources-moves a f (suc n) h = (omega arith, sources-moves (suc a) (suc f) n (omega arith))
+
+sources-puts : (a k : ℕ) (l : List Cmd) → Sources l → Sources (puts a k ++ l)
+sources-puts a zero l h = h
+sources-puts a (suc k) l h = sources-puts (suc a) k l h
+
+sources-block : (a k f n : ℕ) → misfit a k f n ≡ false → Sources (block a k f n)
+sources-block a k f n h = sources-puts a k (moves (a + k) f n) (sources-moves (a + k) f n (let i = in-bank a k f n h in omega arith))
+
+module _ (s : List ℕ) (e : ℕ) where
+  by : {l : List Cmd} → orders s e ≡ l → Sources l → Sources (orders s e)
+  by o h = subst Sources (sym o) h
+
+  low-one : kindOf e ≡ 0 → (cellOf e < 64) ⊎ (64 ≤ cellOf e) → Sources (orders s e)
+  low-one k (inl h) = by (one-ordered s e k h) tt
+  low-one k (inr h) = by (none-ordered s e k h) tt
+
+  low-list : (kindOf e ≡ 0 → ⊥) → (kindOf e ≡ 1 → ⊥) → Dec (kindOf e ≡ 2) → Sources (orders s e)
+  low-list k h (yes t) = by (sets-ordered s e t) (sources-sets (cmdsAt s (listOf e)))
+  low-list k h (no t) = by (all-ordered s e k h t) (sources-at s (listOf e))
+
+  low-some : (kindOf e ≡ 0 → ⊥) → listless s e ≡ false → Dec (kindOf e ≡ 1) → Sources (orders s e)
+  low-some k f (yes h) =
+      by (block-ordered s e h)
+      (sources-block (listOf e % 64) (listOf e / 64 % 32 + 1) (listOf e / 131072) (listOf e / 2048 % 64) (sym (block-listed s e h) ∙ f))
+  low-some k f (no h) = low-list k h (ℕ-discrete (kindOf e) 2)
+
+  low-any : listless s e ≡ false → Dec (kindOf e ≡ 0) → Sources (orders s e)
+  low-any f (yes k) = low-one k (lt-or-le (cellOf e) 64)
+  low-any f (no k) = low-some k f (ℕ-discrete (kindOf e) 1)
+
+  pub ordered-low : listless s e ≡ false → Sources (orders s e)
+  ordered-low f = low-any f (ℕ-discrete (kindOf e) 0)

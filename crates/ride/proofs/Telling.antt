@@ -2,15 +2,19 @@
 use Prim.Native.Nat.{ℕ, _+_, _<_, _≤_}
 use mathlib.Core.Path.{_≡_, refl, sym, ap, ap₂, _∙_}
 use mathlib.Core.Bool.{Bool, true, false}
-use mathlib.Core.List.{List, map}
+use mathlib.Core.Logic.{_⊎_, inl, inr}
+use mathlib.Core.List.{List, [], _∷_, map}
 use lib.ListN.{length, getD, take, drop}
-use lib.IntN.{ℤ}
+use lib.Seq.{getD-take}
+use lib.IntN.{ℤ, pos}
 use lib.Dec.{ltb, eqb}
 use borrow.Author.Tests.{eq-eqb, ne-eqb, lt-ltb, le-ltb}
 use Rattle.ground.specs.Pick.{pick}
-use Rattle.card.specs.Run.{Bank, Told, refused}
+use Rattle.ground.proofs.Tests.{lt-or-le}
+use Rattle.card.specs.Run.{Bank, reg, absent, Told, refused}
 use Rattle.run.specs.Carry.{fieldAt}
 use Rattle.ride.specs.Ride.{endAt}
+use Rattle.ride.specs.Need.{regs}
 
 module _ (s : List ℕ) (bank : Bank) (at : ℕ) where
   abbrev matched : Told
@@ -40,3 +44,16 @@ module _ (s : List ℕ) (bank : Bank) (at : ℕ) where
     tell-some n f =
         ap (λ (x : List ℤ). record { code = 0; answer = getD s (at + 1) 0; places = x }) f
         ∙ end-is false false (le-ltb (length s) (at + 10) l) (ne-eqb (getD s (at + 1) 0) 255 n)
+
+-- ---- the fields name registers, so no other cell is told
+
+regs-field : (bank : Bank) (f : ℕ) → (f < 64) ⊎ (64 ≤ f) → fieldAt bank f ≡ fieldAt (regs bank) f
+unfolding pick
+regs-field bank f (inl h) = ap (λ (x : ℤ). pick (ltb f 64) x absent) (sym (getD-take 64 bank f (pos 0) h))
+regs-field bank f (inr h) =
+    ap (λ (b : Bool). pick b (reg bank f) absent) (le-ltb f 64 h)
+    ∙ sym (ap (λ (b : Bool). pick b (reg (regs bank) f) absent) (le-ltb f 64 h))
+
+pub regs-fields : (bank : Bank) (l : List ℕ) → map (fieldAt bank) l ≡ map (fieldAt (regs bank)) l
+regs-fields bank [] = refl
+regs-fields bank (f ∷ l) = ap₂ (λ (x : ℤ) (m : List ℤ). x ∷ m) (regs-field bank f (lt-or-le f 64)) (regs-fields bank l)

@@ -12,20 +12,25 @@ use Rattle.card.specs.Judged.{Judged}
 use Rattle.card.specs.declared.RowItem.{RowItem}
 use Rattle.card.specs.declared.RowItem.the-variants.{Leads, Ends}
 
--- ---- an entry of 32 bits: 7 for the next situation, 2 for the kind of the list of commands, 23 for the list's place in the table or a block's numbers
+-- ---- an entry of 32 bits: the two highest are its kind, bits 8 to 14 the next situation, so that the place of its row is in them as it stands.
+-- The 8 below and the 15 between are a number: of kind 0 a register or none, else the list's place in the table or a block's numbers
 
 abbrev pub nextOf : ℕ → ℕ
-nextOf e = e % 128
+nextOf e = e / 256 % 128
 
 abbrev pub kindOf : ℕ → ℕ
-kindOf e = e / 128 % 4
+kindOf e = e / 1073741824
+
+-- of kind 0: the register of one SET alone; 64 or more is no command
+abbrev pub cellOf : ℕ → ℕ
+cellOf e = e % 128
 
 abbrev pub listOf : ℕ → ℕ
-listOf e = e / 512
+listOf e = e % 256 + 256 * (e / 32768 % 32768)
 
 -- each number in its own bits
 unfoldable pub entry : (next kind at : ℕ) → ℕ
-entry next kind at = next % 128 + 128 * kind + 512 * (at % 8388608)
+entry next kind at = at % 256 + 256 * (next % 128) + 32768 * (at / 256 % 32768) + 1073741824 * kind
 
 -- ---- a block: SETs of the k registers from a on, then MOVEs of the n registers after them from the registers from s on.
 -- Such are the commands where an item comes into a situation's list: its registers are new, and those of all items after it shift as one
@@ -97,7 +102,7 @@ isThat l a k s n = pick (eqb k 0) false (pick (ltb 32 k) false (pick (misfit a k
 abbrev pub isBlock : List Cmd → Bool
 isBlock l = ofList (isThat l) l
 
--- ---- the kind of a list: 0 none, 1 SETs only, 2 with a MOVE, 3 a block
+-- ---- the kind of a list: 0 none or one SET alone, 1 a block, 2 SETs only, 3 with a MOVE
 
 abbrev pub allSets : List Cmd → Bool
 allSets [] = true
@@ -106,12 +111,12 @@ allSets (put t ∷ l) = allSets l
 
 abbrev pub listKind : List Cmd → ℕ
 listKind [] = 0
-listKind (c ∷ l) = pick (isBlock (c ∷ l)) 3 (pick (allSets (c ∷ l)) 1 2)
+listKind (c ∷ l) = pick (isBlock (c ∷ l)) (pick (ltb (ofList blockBits (c ∷ l)) 64) 0 1) (pick (allSets (c ∷ l)) 2 3)
 
--- where a list stands; of a block its numbers, so that no list is read; 0 if there is none, so that an entry without
--- commands is the next situation's number alone
+-- where a list stands; of a block its numbers, so that no list is read; 64 if there is none: an entry that stays in
+-- situation q without commands is 256 * q + 64
 abbrev pub points : List Cmd → ℕ → ℕ
-points [] at = 0
+points [] at = 64
 points (c ∷ l) at = pick (isBlock (c ∷ l)) (ofList blockBits (c ∷ l)) at
 
 -- ---- the place of a byte's row among the rows at a place: the first that ends at or after the byte; the table's end if there is none
@@ -131,7 +136,7 @@ spotAt s at b = spotN (length s) s at b
 
 abbrev pub rowEntry : RowItem → List Cmd → ℕ → ℕ
 rowEntry (Leads lo hi next) l at = entry next (listKind l) (points l at)
-rowEntry Ends l at = 0
+rowEntry Ends l at = 64
 
 unfoldable pub entryAt : List ℕ → ℕ → ℕ
 entryAt s at = rowEntry (rowAt s at) (cmdsAt s (at + 4)) (at + 4)

@@ -10,7 +10,7 @@ use Rattle.card.specs.Table.{Cmd, move, put}
 use Rattle.card.specs.Run.{Bank, empties, lineMax, Told, refused}
 use Rattle.card.specs.Decode.{cmdsAt}
 use Rattle.run.specs.Carry.{carry, fieldAt}
-use Rattle.ride.specs.Image.{block, misfit, ofBits, nextOf, kindOf, listOf}
+use Rattle.ride.specs.Image.{block, misfit, ofBits, nextOf, kindOf, cellOf, listOf}
 
 -- the SETs that a list begins with
 abbrev pub onlySets : List Cmd → List Cmd
@@ -18,16 +18,16 @@ onlySets [] = []
 onlySets (move t f ∷ l) = []
 onlySets (put t ∷ l) = put t ∷ onlySets l
 
--- the commands of an entry: none; the block that its bits name; SETs only; any
+-- the commands of an entry: none or one SET; the block that its bits name; SETs only; any
 unfoldable pub orders : List ℕ → ℕ → List Cmd
 orders s e =
-    pick (eqb (kindOf e) 0) []
-    (pick (eqb (kindOf e) 3) (ofBits block (listOf e))
-    (pick (eqb (kindOf e) 1) (onlySets (cmdsAt s (listOf e))) (cmdsAt s (listOf e))))
+    pick (eqb (kindOf e) 0) (pick (ltb (cellOf e) 64) (put (cellOf e) ∷ []) [])
+    (pick (eqb (kindOf e) 1) (ofBits block (listOf e))
+    (pick (eqb (kindOf e) 2) (onlySets (cmdsAt s (listOf e))) (cmdsAt s (listOf e))))
 
 -- its numbers name no block, or its list stands past the table's end
 unfoldable pub listless : List ℕ → ℕ → Bool
-listless s e = pick (eqb (kindOf e) 0) false (pick (eqb (kindOf e) 3) (ofBits misfit (listOf e)) (leb (length s) (listOf e)))
+listless s e = pick (eqb (kindOf e) 0) false (pick (eqb (kindOf e) 1) (ofBits misfit (listOf e)) (leb (length s) (listOf e)))
 
 -- an entry that points outside: at a situation that the HEAD does not count, at no block, or at a list past the table's end
 unfoldable pub astray : List ℕ → ℕ → Bool

@@ -7,7 +7,7 @@ ghost use Rattle.ride.specs.Image.{puts, moves};
 ghost use Rattle.ride.specs.Need.{Blocked};
 
 // Eight MOVEs. All sources are read before a target is stored, so that the compiler makes one load and one store of them.
-fn move_eight(bank: &mut [i16; 64], a: usize, f: usize)
+fn move_eight(bank: &mut [i16; 128], a: usize, f: usize)
     requires { ⌜ (a + 8 ≤ 64) × (f + 8 ≤ 64) ⌝ }
     ensures { λ _. ⌜ ((p : ℕ) → now (bank .exit) ≡ carry (moves a f 8) p (now (bank .entry)) (now (bank .entry))) ⌝ }
 {
@@ -30,7 +30,7 @@ fn move_eight(bank: &mut [i16; 64], a: usize, f: usize)
 }
 
 // MOVEs of n registers one by one. Those above are done first, since no source stands above its target.
-fn shift_few(bank: &mut [i16; 64], a: usize, f: usize, n: usize)
+fn shift_few(bank: &mut [i16; 128], a: usize, f: usize, n: usize)
     requires { ⌜ (a + n ≤ 64) × (f ≤ a) ⌝ }
     ensures { λ _. ⌜ ((p : ℕ) → now (bank .exit) ≡ carry (moves a f n) p (now (bank .entry)) (now (bank .entry))) ⌝ }
 {
@@ -43,7 +43,7 @@ fn shift_few(bank: &mut [i16; 64], a: usize, f: usize, n: usize)
 }
 
 // The same by eights, the lowest one by one. `obey_block` tests that no source stands above its target.
-fn shift(bank: &mut [i16; 64], a: usize, f: usize, n: usize)
+fn shift(bank: &mut [i16; 128], a: usize, f: usize, n: usize)
     requires { ⌜ (a + n ≤ 64) × (f ≤ a) ⌝ }
     ensures { λ _. ⌜ ((p : ℕ) → now (bank .exit) ≡ carry (moves a f n) p (now (bank .entry)) (now (bank .entry))) ⌝ }
 {
@@ -56,7 +56,7 @@ fn shift(bank: &mut [i16; 64], a: usize, f: usize, n: usize)
 }
 
 // SETs of the k registers from a on.
-fn fill(bank: &mut [i16; 64], a: usize, k: usize, place: usize)
+fn fill(bank: &mut [i16; 128], a: usize, k: usize, place: usize)
     requires { ⌜ (a + k ≤ 64) × (place ≤ lineMax) ⌝ }
     ensures { λ _. ⌜ now (bank .exit) ≡ carry (puts a k) place (now (bank .entry)) (now (bank .entry)) ⌝ }
 {
@@ -70,7 +70,7 @@ fn fill(bank: &mut [i16; 64], a: usize, k: usize, place: usize)
 }
 
 // The block that the bits w name; false if they name none. The MOVEs come first, since a SET may store to a source.
-pub fn obey_block(w: usize, place: usize, bank: &mut [i16; 64]) -> bool
+pub fn obey_block(w: usize, place: usize, bank: &mut [i16; 128]) -> bool
     requires { ⌜ place ≤ lineMax ⌝ }
     ensures { λ r. ⌜ Blocked w place (now (bank .entry)) (now (bank .exit)) r ⌝ }
 {

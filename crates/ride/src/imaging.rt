@@ -119,21 +119,22 @@ fn first_from(s: &[u8], at: usize) -> usize
 
 // A list that is no block.
 fn plain_sort(s: &[u8], at: usize) -> Sort
-    ensures { λ r. ⌜ (r .kind ≡ pick (allSets (cmdsAt (now (s .entry)) at)) 1 2) × (r .points ≡ at) ⌝ }
+    ensures { λ r. ⌜ (r .kind ≡ pick (allSets (cmdsAt (now (s .entry)) at)) 2 3) × (r .points ≡ at) ⌝ }
 {
     if all_sets(s, at) {
         return Sort {
-            kind: 1,
+            kind: 2,
             points: at,
         };
     }
     Sort {
-        kind: 2,
+        kind: 3,
         points: at,
     }
 }
 
 // A list that begins with a SET of a, as `list_sort` read it: a block, if the MOVEs lead upward and nothing follows them.
+// The numbers of a block are below 64 if it is one SET alone.
 fn block_sort(s: &[u8], at: usize, a: usize) -> Sort
     requires { ⌜ Begins (now s) at a ⌝ }
     ensures { λ r. ⌜ Sorted (now (s .entry)) at (r .kind) (r .points) ⌝ }
@@ -154,10 +155,11 @@ fn block_sort(s: &[u8], at: usize, a: usize) -> Sort
     if !lists::alone(s, end) {
         return plain_sort(s, at);
     }
-    Sort {
-        kind: 3,
-        points: a + 64 * (k - 1) + 2048 * n + 131072 * f,
+    let w = a + 64 * (k - 1) + 2048 * n + 131072 * f;
+    if w < 64 {
+        return Sort { kind: 0, points: w };
     }
+    Sort { kind: 1, points: w }
 }
 
 // The kind of the list at a place, and what its entry points to.
@@ -167,11 +169,14 @@ fn list_sort(s: &[u8], at: usize) -> Sort
     let o = card::read_cmd(s, at);
     match o {
         Order::Stop => {
-            return Sort { kind: 0, points: 0 };
+            return Sort {
+                kind: 0,
+                points: 64,
+            };
         }
         Order::Move(_, _) => {
             return Sort {
-                kind: 2,
+                kind: 3,
                 points: at,
             };
         }
@@ -181,14 +186,15 @@ fn list_sort(s: &[u8], at: usize) -> Sort
     }
 }
 
-// The three numbers of an entry, each in its own bits.
+// The three numbers of an entry, each in its own bits; those of the last lie below and above the next situation.
 fn packed(next: u8, kind: u32, at: usize) -> u32
     requires { ⌜ kind < 4 ⌝ }
     ensures { λ r. ⌜ r ≡ entry next kind at ⌝ }
 {
     let n = (next % 128) as u32;
-    let a = (at % 8388608) as u32;
-    n + 128 * kind + 512 * a
+    let low = (at % 256) as u32;
+    let high = (at / 256 % 32768) as u32;
+    low + 256 * n + 32768 * high + 1073741824 * kind
 }
 
 // The place of a byte's row, among the rows at a place.
@@ -214,7 +220,7 @@ fn entry_at(s: &[u8], at: usize) -> u32
 {
     let row = card::read_row(s, at);
     let RowItem::Leads(_, _, next) = row else {
-        return 0;
+        return 64;
     };
     let l = list_sort(s, at + 4);
     packed(next, l.kind, l.points)

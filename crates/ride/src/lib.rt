@@ -1,21 +1,25 @@
 // A load-once run: a table is judged and written as an image once, then lines ride over the image.
 mod blocks;
+mod gliding;
 mod imaging;
 
 ghost use mathlib.Core.Path.{_≡_};
-ghost use Prim.Native.Nat.{_≤_, _<_};
+ghost use Prim.Native.Nat.{_≤_, _<_, _*_};
+ghost use lib.ListN.{length, getD};
 ghost use Rattle.card.specs.Decode.{cmdsAt};
-ghost use Rattle.card.specs.Run.{lineMax};
+ghost use Rattle.card.specs.Run.{lineMax, refused};
 ghost use Rattle.run.specs.Carry.{carry};
 ghost use Rattle.run.specs.Runs.{toldOf};
 ghost use Rattle.ride.specs.Image.{Mounts};
 ghost use Rattle.ride.specs.Ride.{onlySets, endAt, ridesFrom, started, ridden};
-ghost use Rattle.ride.specs.Need.{Obeyed, Rideable};
+ghost use Rattle.ride.specs.Need.{Obeyed, regs, left, ended, Ends, Glidable, Fits};
 use answers::LINE_LONG;
 use answers::NO_MATCH;
 use answers::OUT_SMALL;
 use answers::TABLE_FORM;
 use card::Order;
+use gliding::ASTRAY;
+use gliding::word;
 use run::Ran;
 use run::lists;
 use run::refusal;
@@ -23,15 +27,14 @@ use run::refusal;
 // The longest line.
 const LINE_MAX: usize = 32767;
 
-// An entry of an image as an index.
-fn word(x: u32) -> usize
-    ensures { λ r. ⌜ r ≡ x ⌝ }
-{
-    x as usize
+// What is told of two lines.
+pub struct Two {
+    pub first: Ran,
+    pub second: Ran,
 }
 
 // The SETs that the list at a place begins with. They read no register, so they need no old bank.
-fn set_list(s: &[u8], at: usize, place: usize, bank: &mut [i16; 64])
+fn set_list(s: &[u8], at: usize, place: usize, bank: &mut [i16; 128])
     requires { ⌜ place ≤ lineMax ⌝ }
     ensures { λ _. ⌜ now (bank .exit) ≡ carry (onlySets (cmdsAt (now (s .entry)) at)) place (now (bank .entry)) (now (bank .entry)) ⌝ }
 {
@@ -54,29 +57,21 @@ fn set_list(s: &[u8], at: usize, place: usize, bank: &mut [i16; 64])
     }
 }
 
-// The commands of an entry carried out; false for numbers that name no block or a list that stands past the table's
-// end. A number below 64 is a block of one SET alone.
-fn obey(s: &[u8], e: usize, place: usize, bank: &mut [i16; 64]) -> bool
-    requires { ⌜ place ≤ lineMax ⌝ }
+// The commands of an entry that is not of kind 0, which `ride_rest` tests, carried out; false for numbers that name no
+// block or a list that stands past the table's end.
+fn obey(s: &[u8], e: usize, place: usize, bank: &mut [i16; 128]) -> bool
+    requires { ⌜ (1073741824 ≤ e) × (place ≤ lineMax) ⌝ }
     ensures { λ r. ⌜ Obeyed (now (s .entry)) e place (now (bank .entry)) (now (bank .exit)) r ⌝ }
 {
-    let kind = e / 128 % 4;
-    if kind == 0 {
-        return true;
-    }
-    let at = e / 512;
-    if kind == 3 {
-        if at < 64 {
-            let v = ground::held(place);
-            bank[at] = v;
-            return true;
-        }
+    let kind = e / 1073741824;
+    let at = e % 256 + 256 * (e / 32768 % 32768);
+    if kind == 1 {
         return blocks::obey_block(at, place, bank);
     }
     if s.len() <= at {
         return false;
     }
-    if kind == 1 {
+    if kind == 2 {
         set_list(s, at, place, bank);
         return true;
     }
@@ -85,9 +80,9 @@ fn obey(s: &[u8], e: usize, place: usize, bank: &mut [i16; 64]) -> bool
 }
 
 // What the situation at a place tells.
-fn tell(s: &[u8], at: usize, bank: &[i16; 64]) -> Ran
+fn tell(s: &[u8], at: usize, bank: &[i16; 128]) -> Ran
     requires { ⌜ at < 4294967296 ⌝ }
-    ensures { λ r. ⌜ toldOf r ≡ endAt (now (s .entry)) (now (bank .entry)) at ⌝ }
+    ensures { λ r. ⌜ toldOf r ≡ endAt (now (s .entry)) (regs (now (bank .entry))) at ⌝ }
 {
     if s.len() < at + 10 {
         return refusal(TABLE_FORM);
@@ -104,37 +99,140 @@ fn tell(s: &[u8], at: usize, bank: &[i16; 64]) -> Ran
     }
 }
 
-// The way of a line over an image. An entry that equals the situation's number stays in it without commands. Wherever a
-// situation leads to itself the row's place stays, so that the next load does not wait for this one.
-fn ride_line(s: &[u8], image: &[u32], count: usize, line: &[u8]) -> Ran
-    requires { ⌜ Rideable (now s) (now image) (now line) count ⌝ }
-    ensures { λ r. ⌜ toldOf r ≡ ridesFrom (now (s .entry)) (now (image .entry)) 0 (started (now (s .entry))) 0 (now (line .entry)) ⌝ }
+// The rest of a line from a place and a row on, whatever its entries say: the row where it ends, or ASTRAY. Where a
+// situation leads to itself the row stays, so that the next load does not wait for this one.
+fn ride_rest(
+    s: &[u8],
+    image: &[u32],
+    limit: usize,
+    line: &[u8],
+    from: usize,
+    first: usize,
+    bank: &mut [i16; 128],
+) -> usize
+    requires { ⌜ (limit ≡ 256 * getD (now s) 4 0) × Glidable (now image) limit (now line) from first ⌝ }
+    ensures { λ r. ⌜ (ended (now (s .entry)) (now (image .entry)) r (now (bank .exit)) ≡ left (now (s .entry)) (now (image .entry)) first (now (bank .entry)) from (now (line .entry))) × Ends (now (image .entry)) limit r ⌝ }
 {
-    let mut bank = [-1i16; 64];
-    set_list(s, 5, 0, &mut bank);
-    let mut q: usize = 0;
-    let mut row: usize = 0;
-    let mut i: usize = 0;
+    let mut row = first;
+    let mut i = from;
     while i < line.len() {
         let b = ground::wide(line[i]);
         let e = word(image[row + b]);
         i += 1;
-        if e != q {
-            let next = e % 128;
-            if next != q {
-                if count <= next {
-                    return refusal(TABLE_FORM);
+        if e != row + 64 {
+            let next = e / 256 % 128 * 256;
+            if next != row {
+                if limit <= next {
+                    return ASTRAY;
                 }
-                q = next;
-                row = 256 * next;
+                row = next;
             }
-            if !obey(s, e, i, &mut bank) {
-                return refusal(TABLE_FORM);
+            if e < 1073741824 {
+                let v = ground::held(i);
+                bank[e % 128] = v;
+            } else {
+                if !obey(s, e, i, bank) {
+                    return ASTRAY;
+                }
             }
         }
     }
-    let at = word(image[256 * count + q]);
-    tell(s, at, &bank)
+    row
+}
+
+// What is told where a line ended.
+fn told(s: &[u8], image: &[u32], count: usize, row: usize, bank: &[i16; 128]) -> Ran
+    requires { ⌜ Fits (now s) (now image) count × Ends (now image) (256 * count) row ⌝ }
+    ensures { λ r. ⌜ toldOf r ≡ ended (now (s .entry)) (now (image .entry)) row (now (bank .entry)) ⌝ }
+{
+    if row == ASTRAY {
+        return refusal(TABLE_FORM);
+    }
+    let at = word(image[256 * count + row / 256]);
+    tell(s, at, bank)
+}
+
+// What is told of a line from a place and a row on.
+fn finish(
+    s: &[u8],
+    image: &[u32],
+    count: usize,
+    line: &[u8],
+    from: usize,
+    first: usize,
+    bank: &mut [i16; 128],
+) -> Ran
+    requires { ⌜ Fits (now s) (now image) count × Glidable (now image) (256 * count) (now line) from first ⌝ }
+    ensures { λ r. ⌜ toldOf r ≡ left (now (s .entry)) (now (image .entry)) first (now (bank .entry)) from (now (line .entry)) ⌝ }
+{
+    let row = ride_rest(s, image, 256 * count, line, from, first, bank);
+    told(s, image, count, row, bank)
+}
+
+// A line alone. Most lines glide from end to end; the others go on from where they stopped.
+fn ride_line(s: &[u8], image: &[u32], count: usize, line: &[u8]) -> Ran
+    requires { ⌜ Fits (now s) (now image) count × (length (now line) ≤ lineMax) ⌝ }
+    ensures { λ r. ⌜ toldOf r ≡ ridesFrom (now (s .entry)) (now (image .entry)) 0 (started (now (s .entry))) 0 (now (line .entry)) ⌝ }
+{
+    let mut bank = [-1i16; 128];
+    set_list(s, 5, 0, &mut bank);
+    let limit = 256 * count;
+    let g = gliding::glide(image, limit, line, 0, 0, &mut bank);
+    let mut row = g.row;
+    if g.place < line.len() {
+        row = ride_rest(s, image, limit, line, g.place, g.row, &mut bank);
+    }
+    told(s, image, count, row, &bank)
+}
+
+// Two lines in step, as far as both glide, so that their loads overlap; then the rest of each.
+fn ride_both(s: &[u8], image: &[u32], count: usize, line: &[u8], other: &[u8]) -> Two
+    requires { ⌜ Fits (now s) (now image) count × (length (now line) ≤ lineMax) × (length (now other) ≤ lineMax) ⌝ }
+    ensures { λ r. ⌜ (toldOf (r .first) ≡ ridesFrom (now (s .entry)) (now (image .entry)) 0 (started (now (s .entry))) 0 (now (line .entry))) × (toldOf (r .second) ≡ ridesFrom (now (s .entry)) (now (image .entry)) 0 (started (now (s .entry))) 0 (now (other .entry))) ⌝ }
+{
+    let mut bank = [-1i16; 128];
+    set_list(s, 5, 0, &mut bank);
+    let mut beside = [-1i16; 128];
+    set_list(s, 5, 0, &mut beside);
+    let limit = 256 * count;
+    let g = gliding::glide_two(image, limit, line, other, &mut bank, &mut beside);
+    let x = gliding::glide(image, limit, line, g.place, g.row, &mut bank);
+    let y = gliding::glide(image, limit, other, g.place2, g.row2, &mut beside);
+    if x.place < line.len() {
+        let first = finish(s, image, count, line, x.place, x.row, &mut bank);
+        let second = finish(s, image, count, other, y.place, y.row, &mut beside);
+        return Two { first, second };
+    }
+    if y.place < other.len() {
+        let first = finish(s, image, count, line, x.place, x.row, &mut bank);
+        let second = finish(s, image, count, other, y.place, y.row, &mut beside);
+        return Two { first, second };
+    }
+    let first = told(s, image, count, x.row, &bank);
+    let second = told(s, image, count, y.row, &beside);
+    Two { first, second }
+}
+
+// A line alone beside one that is too long.
+fn ride_beside(s: &[u8], image: &[u32], count: usize, line: &[u8]) -> Ran
+    requires { ⌜ Fits (now s) (now image) count ⌝ }
+    ensures { λ r. ⌜ toldOf r ≡ ridden (now (s .entry)) (now (image .entry)) (now (line .entry)) ⌝ }
+{
+    if LINE_MAX < line.len() {
+        return refusal(LINE_LONG);
+    }
+    let mut bank = [-1i16; 128];
+    set_list(s, 5, 0, &mut bank);
+    finish(s, image, count, line, 0, 0, &mut bank)
+}
+
+// One refusal of both lines.
+fn both_refused(code: u8) -> Two
+    ensures { λ r. ⌜ (toldOf (r .first) ≡ refused code) × (toldOf (r .second) ≡ refused code) ⌝ }
+{
+    let first = refusal(code);
+    let second = refusal(code);
+    Two { first, second }
 }
 
 // What the table tells of a line, by its image: for a mounted image of a taken table, what `run::run` tells.
@@ -153,6 +251,30 @@ pub fn ride(table: &[u8], image: &[u32], line: &[u8]) -> Ran
         return refusal(LINE_LONG);
     }
     ride_line(table, image, count, line)
+}
+
+// What the table tells of two lines, by its image: of each what `ride` tells of it.
+pub fn ride_two(table: &[u8], image: &[u32], line: &[u8], other: &[u8]) -> Two
+    ensures { λ r. ⌜ (toldOf (r .first) ≡ ridden (now (table .entry)) (now (image .entry)) (now (line .entry))) × (toldOf (r .second) ≡ ridden (now (table .entry)) (now (image .entry)) (now (other .entry))) ⌝ }
+{
+    let count = card::sit_count(table);
+    if count == 0 {
+        return both_refused(TABLE_FORM);
+    }
+    if image.len() < 257 * count {
+        return both_refused(TABLE_FORM);
+    }
+    if LINE_MAX < line.len() {
+        let first = refusal(LINE_LONG);
+        let second = ride_beside(table, image, count, other);
+        return Two { first, second };
+    }
+    if LINE_MAX < other.len() {
+        let first = ride_beside(table, image, count, line);
+        let second = refusal(LINE_LONG);
+        return Two { first, second };
+    }
+    ride_both(table, image, count, line, other)
 }
 
 // Judges a table and writes its image: 13 and 14 as the loader judges, 12 where the image has no room for 257 numbers a

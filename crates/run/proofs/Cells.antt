@@ -56,7 +56,7 @@ module _ (b : Bank) (t : ℕ) (x : ℤ) where
   pub regs-set-high : 64 ≤ t → take 64 (set b t x) ≡ take 64 b
   regs-set-high h = take-set-le 64 b t x h
 
-  regs-set : take 64 (set b t x) ≡ set (take 64 b) t x
+  pub regs-set : take 64 (set b t x) ≡ set (take 64 b) t x
   regs-set = by (lt-or-le t 64)
     where
       by : (t < 64) ⊎ (64 ≤ t) → take 64 (set b t x) ≡ set (take 64 b) t x

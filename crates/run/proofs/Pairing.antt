@@ -4,7 +4,7 @@ use native.Mathlib.Omega.{arith}
 use mathlib.Core.Path.{_≡_, refl, sym, ap, ap₂, _∙_}
 use mathlib.Core.Bool.{Bool, true, false}
 use mathlib.Core.List.{List}
-use lib.ListN.{set}
+use lib.ListN.{set, take}
 use lib.IntN.{ℤ, pos}
 use Rattle.card.specs.Table.{Cmd}
 use Rattle.card.specs.Run.{Bank, reg}
@@ -13,6 +13,7 @@ use Rattle.card.specs.declared.Order.the-variants.{Move, Put, Stop}
 use Rattle.run.specs.Carry.{carry}
 use Rattle.card.proofs.Laws.{cmds-step}
 use Rattle.run.proofs.Carrying.{carry-move, carry-put, carry-stop}
+use Rattle.run.proofs.Cells.{sources-at, carry-kept}
 use Rattle.run.specs.Carry.{Tried, Alone}
 
 -- ---- whether there is a command
@@ -81,6 +82,8 @@ module _ (s : List ℕ) (i p : ℕ) (old cur : Bank) where
 pub carried-pair : {s : List ℕ} {i p : ℕ} {old new : Bank} {r : Bool} → Tried s i p old old new r → r ≡ true → new ≡ carry (cmdsAt s i) p old old
 carried-pair t z = t .done z
 
-pub carried-all : {s : List ℕ} {i p : ℕ} {old mid new : Bank} {r : Bool} → Tried s i p old old mid r → r ≡ false
-    → new ≡ carry (cmdsAt s i) p mid mid → new ≡ carry (cmdsAt s i) p old old
-carried-all {s} {i} {p} t z e = e ∙ ap (λ (b : Bank). carry (cmdsAt s i) p b b) (t .left z)
+pub carried-all : {s : List ℕ} {i p : ℕ} {old mid kept new : Bank} {r : Bool} → Tried s i p old old mid r → r ≡ false
+    → kept ≡ take 64 mid → new ≡ carry (cmdsAt s i) p kept mid → new ≡ carry (cmdsAt s i) p old old
+carried-all {s} {i} {p} {mid = mid} t z k e =
+    e ∙ ap (λ (b : Bank). carry (cmdsAt s i) p b mid) k ∙ carry-kept (cmdsAt s i) (sources-at s i) p mid mid
+    ∙ ap (λ (b : Bank). carry (cmdsAt s i) p b b) (t .left z)

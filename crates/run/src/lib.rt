@@ -41,9 +41,9 @@ fn apply_list(s: &[u8], at: usize, place: usize, old: Bank) -> Bank
     requires { ⌜ place ≤ lineMax ⌝ }
     ensures { λ r. ⌜ r .r ≡ carry (cmdsAt (now (s .entry)) at) place (old .r) (old .r) ⌝ }
 {
-    let mut cur = old;
-    lists::carry_list(s, at, place, &mut cur.r);
-    cur
+    let mut r = old.r;
+    lists::carry_list(s, at, place, &mut r);
+    Bank { r }
 }
 
 // The row of a byte, among the rows at a place.
@@ -89,8 +89,8 @@ fn run_line(s: &[u8], places: &[usize; 96], line: &[u8]) -> Stand
 }
 
 // The places that the eight fields at a place name. That there are eight is shown by whoever knows the situation's place.
-pub fn fields_at(s: &[u8], at: usize, bank: &[i16; 64]) -> [i16; 8]
-    requires { ⌜ at + 8 ≤ length (now s) ⌝ }
+pub fn fields_at(s: &[u8], at: usize, bank: &[i16]) -> [i16; 8]
+    requires { ⌜ (at + 8 ≤ length (now s)) × (64 ≤ length (now bank)) ⌝ }
     ensures { λ r. ⌜ r ≡ map (fieldAt (now (bank .entry))) (take 8 (drop at (now (s .entry)))) ⌝ }
 {
     let mut out = [-1i16; 8];

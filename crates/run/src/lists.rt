@@ -1,7 +1,7 @@
 // A list of commands carried out on a bank: "One list reads all its sources before it writes."
 ghost use mathlib.Core.Path.{_≡_};
 ghost use Prim.Native.Nat.{_≤_, _<_};
-ghost use lib.ListN.{set};
+ghost use lib.ListN.{length, set, take};
 ghost use Rattle.card.specs.Decode.{cmdsAt};
 ghost use Rattle.card.specs.Run.{lineMax};
 ghost use Rattle.run.specs.Carry.{carry, Alone, Tried};
@@ -26,8 +26,8 @@ pub fn alone(s: &[u8], at: usize) -> bool
 }
 
 // The whole list at a place: all sources are read from the old bank.
-fn move_list(s: &[u8], at: usize, place: usize, old: &[i16; 64], bank: &mut [i16; 64])
-    requires { ⌜ place ≤ lineMax ⌝ }
+fn move_list(s: &[u8], at: usize, place: usize, old: &[i16; 64], bank: &mut [i16])
+    requires { ⌜ (place ≤ lineMax) × (64 ≤ length (now bank)) ⌝ }
     ensures { λ _. ⌜ now (bank .exit) ≡ carry (cmdsAt (now (s .entry)) at) place (now (old .entry)) (now (bank .entry)) ⌝ }
 {
     let v = ground::held(place);
@@ -53,8 +53,8 @@ fn move_list(s: &[u8], at: usize, place: usize, old: &[i16; 64], bank: &mut [i16
 
 // A list whose first command, which `pair` read, stores x to a register, and whose other commands stand at a place.
 // False, with nothing stored, if there are two of them or more.
-fn pair_rest(s: &[u8], at: usize, place: usize, to: usize, x: i16, bank: &mut [i16; 64]) -> bool
-    requires { ⌜ (place ≤ lineMax) × (to < 64) ⌝ }
+fn pair_rest(s: &[u8], at: usize, place: usize, to: usize, x: i16, bank: &mut [i16]) -> bool
+    requires { ⌜ (place ≤ lineMax) × (to < 64) × (64 ≤ length (now bank)) ⌝ }
     ensures { λ r. ⌜ Tried (now (s .entry)) at place (now (bank .entry)) (set (now (bank .entry)) to x) (now (bank .exit)) r ⌝ }
 {
     let o = card::read_cmd(s, at);
@@ -86,8 +86,8 @@ fn pair_rest(s: &[u8], at: usize, place: usize, to: usize, x: i16, bank: &mut [i
 
 // The list at a place, if it has no more than two commands: what is stored is read before anything is stored, so there is no
 // old bank to keep. Else false, with nothing stored.
-fn pair(s: &[u8], at: usize, place: usize, bank: &mut [i16; 64]) -> bool
-    requires { ⌜ place ≤ lineMax ⌝ }
+fn pair(s: &[u8], at: usize, place: usize, bank: &mut [i16]) -> bool
+    requires { ⌜ (place ≤ lineMax) × (64 ≤ length (now bank)) ⌝ }
     ensures { λ r. ⌜ Tried (now (s .entry)) at place (now (bank .entry)) (now (bank .entry)) (now (bank .exit)) r ⌝ }
 {
     let mut x = ground::held(place);
@@ -111,14 +111,29 @@ fn pair(s: &[u8], at: usize, place: usize, bank: &mut [i16; 64]) -> bool
     pair_rest(s, i, place, to, x, bank)
 }
 
-// The list at a place. That the place fits is shown by whoever counted to it.
-pub fn carry_list(s: &[u8], at: usize, place: usize, bank: &mut [i16; 64])
-    requires { ⌜ place ≤ lineMax ⌝ }
+// The registers kept, for what a list reads: its sources are below 64.
+fn kept(bank: &[i16]) -> [i16; 64]
+    requires { ⌜ 64 ≤ length (now bank) ⌝ }
+    ensures { λ r. ⌜ r ≡ take 64 (now (bank .entry)) ⌝ }
+{
+    let mut out = [-1i16; 64];
+    let mut t: usize = 0;
+    while t < 64 {
+        let v = bank[t];
+        out[t] = v;
+        t += 1;
+    }
+    out
+}
+
+// The list at a place, on a bank whose first 64 cells are the registers. That the place fits is shown by whoever counted to it.
+pub fn carry_list(s: &[u8], at: usize, place: usize, bank: &mut [i16])
+    requires { ⌜ (place ≤ lineMax) × (64 ≤ length (now bank)) ⌝ }
     ensures { λ _. ⌜ now (bank .exit) ≡ carry (cmdsAt (now (s .entry)) at) place (now (bank .entry)) (now (bank .entry)) ⌝ }
 {
     if pair(s, at, place, bank) {
         return;
     }
-    let old = *bank;
+    let old = kept(bank);
     move_list(s, at, place, &old, bank);
 }

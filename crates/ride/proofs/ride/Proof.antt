@@ -1,7 +1,7 @@
 -- `ride::ride` meets its contract. Assumes nothing.
 use mathlib.Core.Path.{_∙_}
-use native.Mathlib.Omega.{arith}
 use Rattle.ride.proofs.Answering.{ridden-none, ridden-small, ridden-long, ridden-on}
+use Rattle.ride.proofs.Lines.{fits}
 use borrow.Author.Needs.{needs}
 use Rattle.ride.proofs.ride.Statement.{statement}
 use Rattle.ride.proofs.ride.Tie as tie
@@ -31,7 +31,7 @@ returns-3 : tie.Need-returns-3
 returns-3 c = c .refusal3 .ensures ∙ ridden-long _ _ _ (c .before .before .before .before .sit-count .ensures .0) (c .before .before .before .if1 .left) (c .before .before .if2 .left) (c .before .if3 .taken)
 
 ride-line-requires : tie.Need-ride-line-requires
-ride-line-requires c κs = record { counted = c .before .before .before .sit-count .ensures .0; some = omega (arith, c .before .before .if1 .left); few = c .before .before .before .sit-count .ensures .1; room = c .before .if2 .left; short = c .if3 .left }
+ride-line-requires c κs = (fits (c .before .before .before .sit-count .ensures) (c .before .before .if1 .left) (c .before .if2 .left), c .if3 .left)
 
 returns-4 : tie.Need-returns-4
 returns-4 c = c .ride-line .ensures ∙ ridden-on _ _ _ (c .before .before .before .before .sit-count .ensures .0) (c .before .before .before .if1 .left) (c .before .before .if2 .left) (c .before .if3 .left)

@@ -38,7 +38,7 @@ mul-v : tie.Need-mul-v Inv-loop μ-loop
 mul-v c = let f = put-facts _ _ _ (sym (c .before .before .before .read-cmd .ensures) ∙ c .before .o .given .1) in omega arith
 
 element-set-from-v : tie.Need-element-set-from-v Inv-loop μ-loop
-element-set-from-v c = put-facts _ _ _ (sym (c .before .before .before .read-cmd .ensures) ∙ c .before .o .given .1) .0
+element-set-from-v c = let f = put-facts _ _ _ (sym (c .before .before .before .read-cmd .ensures) ∙ c .before .o .given .1) in omega arith
 
 add-i : tie.Need-add-i Inv-loop μ-loop
 add-i c = let f = put-facts _ _ _ (sym (c .before .before .before .read-cmd .ensures) ∙ c .before .o .given .1) in omega arith

@@ -1,6 +1,8 @@
 -- `ride::tell` meets its contract. Assumes nothing.
+use Prim.Native.Nat.{_+_}
 use mathlib.Core.Path.{_∙_}
-use Rattle.ride.proofs.Telling.{tell-short, tell-none, tell-some}
+use lib.ListN.{take, drop}
+use Rattle.ride.proofs.Telling.{tell-short, tell-none, tell-some, regs-fields}
 use borrow.Author.Needs.{needs}
 use Rattle.ride.proofs.tell.Statement.{statement}
 use Rattle.ride.proofs.tell.Tie as tie
@@ -33,7 +35,7 @@ fields-at-requires : tie.Need-fields-at-requires
 fields-at-requires c κs = search needs
 
 returns-3 : tie.Need-returns-3
-returns-3 c = tell-some _ _ _ (c .before .before .before .if1 .left) (c .before .if2 .left) (c .fields-at .ensures)
+returns-3 c = tell-some _ _ _ (c .before .before .before .before .if1 .left) (c .before .before .if2 .left) (c .fields-at .ensures ∙ regs-fields (c .before .before .before .before .before .before .args .bank .now) (take 8 (drop (c .before .before .before .before .before .before .args .at + 2) (c .before .before .before .before .before .before .args .s .now))))
 
 pub tell-spec : {M : Type 1} → statement M
 tell-spec =

@@ -33,8 +33,8 @@ wide-requires c κs = search needs
 mul-v : tie.Need-mul-v Inv-loop μ-loop
 mul-v c = search needs
 
-element-copy-out-v : tie.Need-element-copy-out-v Inv-loop μ-loop
-element-copy-out-v c = search needs
+shared-slice-copy-out-v : tie.Need-shared-slice-copy-out-v Inv-loop μ-loop
+shared-slice-copy-out-v c = search needs
 
 mul-out : tie.Need-mul-out Inv-loop μ-loop
 mul-out c = omega (arith, c .before .before .before .before .before .loop .inv .most)
@@ -58,7 +58,7 @@ loop-again c =
     (c .if1 .came)
 
 returns : tie.Need-returns Inv-loop μ-loop
-returns c = filled-all (c .before .before .before .pre) (c .before .loop .inv) (c .loop-test .left)
+returns c = filled-all (c .before .before .before .pre .0) (c .before .loop .inv) (c .loop-test .left)
 
 pub fields-at-spec : {M : Type 1} → statement M
 fields-at-spec =
@@ -71,7 +71,7 @@ fields-at-spec =
     shared-slice-read-wide
     wide-requires
     mul-v
-    element-copy-out-v
+    shared-slice-copy-out-v
     mul-out
     array-set-from-out
     add-t

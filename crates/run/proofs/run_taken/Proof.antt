@@ -1,8 +1,9 @@
 -- `run::run_taken` meets its contract: the last situation and the bank tell the result. Assumes nothing.
 use Prim.Native.Nat.{ℕ, _<_}
-use mathlib.Core.Path.{ap, _∙_}
+use mathlib.Core.Path.{ap, sym, _∙_}
 use native.Mathlib.Omega.{arith}
 use lib.ListN.{getD}
+use Rattle.ground.proofs.Lists.{unmapped}
 use Rattle.card.specs.Run.{at}
 use Rattle.loader.proofs.Situated.{count-most}
 use Rattle.run.proofs.Filling.{told-fields}
@@ -41,8 +42,11 @@ returns c =
 add-fields-at : tie.Need-add-fields-at
 add-fields-at c = let h = answer-room (c .before .before .before .before .before .before .before .before .pre .ready) {q = c .before .before .before .before .wide .result} (omega (arith, c .before .before .before .before .before .run-line .ensures .1, c .before .before .before .before .wide .ensures)) in omega (arith, c .before .before .before .before .before .before .before .before .good .0 .1)
 
+slice-aggregate-fields-at : tie.Need-slice-aggregate-fields-at
+slice-aggregate-fields-at c = sym (unmapped _ (c .before .before .before .before .before .before .run-line .result .bank .r) 64 (c .before .before .before .before .before .before .run-line .ok .1 .1 .1 .0 .1 .1 .0 .1 .0 .1))
+
 fields-at-requires : tie.Need-fields-at-requires
-fields-at-requires c κs = eight (c .before .before .before .before .before .before .before .before .before .pre .ready) {q = c .before .before .before .before .before .wide .result} (omega (arith, c .before .before .before .before .before .before .run-line .ensures .1, c .before .before .before .before .before .wide .ensures)) .room
+fields-at-requires c κs = (eight (c .before .before .before .before .before .before .before .before .before .pre .ready) {q = c .before .before .before .before .before .wide .result} (omega (arith, c .before .before .before .before .before .before .run-line .ensures .1, c .before .before .before .before .before .wide .ensures)) .room, let n = slice-aggregate-fields-at c in omega arith)
 
 returns-2 : tie.Need-returns-2
 returns-2 c =
@@ -64,5 +68,6 @@ run-taken-spec =
     refusal-requires
     returns
     add-fields-at
+    slice-aggregate-fields-at
     fields-at-requires
     returns-2)

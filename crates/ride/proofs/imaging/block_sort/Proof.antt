@@ -3,7 +3,7 @@ use native.Mathlib.Omega.{arith}
 use borrow.Author.Tests.{not-true, not-false}
 use Rattle.card.proofs.Laws.{put-facts}
 use Rattle.ride.specs.Image.{blockBits}
-use Rattle.ride.proofs.Entries.{a-set, sort-many, sort-down, sort-mixed, sort-block}
+use Rattle.ride.proofs.Entries.{a-set, sort-many, sort-down, sort-mixed, sort-one, sort-block}
 use borrow.Author.Needs.{needs}
 use Rattle.ride.proofs.imaging.block_sort.Statement.{statement}
 use Rattle.ride.proofs.imaging.block_sort.Tie as tie
@@ -44,30 +44,34 @@ plain-sort-requires-3 c κs = search needs
 returns-3 : tie.Need-returns-3
 returns-3 c = sort-mixed _ _ (c .before .before .before .before .before .before .before .before .before .pre) (c .before .before .before .before .before .before .before .sets-run .ensures) (c .before .before .before .before .before .before .first-from .ensures .0) (c .before .before .before .before .before .moves-run .ensures) (c .before .before .alone .ensures) (not-true _ (c .before .if3 .taken)) (c .plain-sort3 .ensures)
 
-sub-t11 : tie.Need-sub-t11
-sub-t11 c = let h = a-set _ _ (c .before .before .before .before .before .before .before .before .pre) (c .before .before .before .before .before .before .sets-run .ensures) (c .before .before .before .before .before .first-from .ensures .0) (c .before .before .before .before .moves-run .ensures) in omega arith
+sub-w : tie.Need-sub-w
+sub-w c = let h = a-set _ _ (c .before .before .before .before .before .before .before .before .pre) (c .before .before .before .before .before .before .sets-run .ensures) (c .before .before .before .before .before .first-from .ensures .0) (c .before .before .before .before .moves-run .ensures) in omega arith
 
-mul-t14 : tie.Need-mul-t14
-mul-t14 c = search needs
+mul-w : tie.Need-mul-w
+mul-w c = search needs
 
-add-t15 : tie.Need-add-t15
-add-t15 c = search needs
+add-w : tie.Need-add-w
+add-w c = search needs
 
-mul-t16 : tie.Need-mul-t16
-mul-t16 c = search needs
+mul-w-2 : tie.Need-mul-w-2
+mul-w-2 c = search needs
 
-add-t17 : tie.Need-add-t17
-add-t17 c = search needs
+add-w-2 : tie.Need-add-w-2
+add-w-2 c = search needs
 
-mul-t18 : tie.Need-mul-t18
-mul-t18 c = search needs
+mul-w-3 : tie.Need-mul-w-3
+mul-w-3 c = search needs
 
-add-t19 : tie.Need-add-t19
-add-t19 c = search needs
+add-w-3 : tie.Need-add-w-3
+add-w-3 c = search needs
 
 returns-4 : tie.Need-returns-4
 unfolding blockBits
-returns-4 c = sort-block _ _ (c .before .before .before .before .before .before .before .before .pre) (c .before .before .before .before .before .before .sets-run .ensures) (c .before .before .before .before .before .first-from .ensures .0) (c .before .before .before .before .moves-run .ensures) (c .before .before .before .if1 .left) (c .before .before .if2 .left) (c .before .alone .ensures) (not-false _ (c .if3 .left))
+returns-4 c = sort-one _ _ (c .before .before .before .before .before .before .before .before .before .pre) (c .before .before .before .before .before .before .before .sets-run .ensures) (c .before .before .before .before .before .before .first-from .ensures .0) (c .before .before .before .before .before .moves-run .ensures) (c .before .before .before .before .if1 .left) (c .before .before .before .if2 .left) (c .before .before .alone .ensures) (not-false _ (c .before .if3 .left)) (c .if4 .taken)
+
+returns-5 : tie.Need-returns-5
+unfolding blockBits
+returns-5 c = sort-block _ _ (c .before .before .before .before .before .before .before .before .before .pre) (c .before .before .before .before .before .before .before .sets-run .ensures) (c .before .before .before .before .before .before .first-from .ensures .0) (c .before .before .before .before .before .moves-run .ensures) (c .before .before .before .before .if1 .left) (c .before .before .before .if2 .left) (c .before .before .alone .ensures) (not-false _ (c .before .if3 .left)) (c .if4 .left)
 
 pub block-sort-spec : {M : Type 1} → statement M
 block-sort-spec =
@@ -85,11 +89,12 @@ block-sort-spec =
     alone-requires
     plain-sort-requires-3
     returns-3
-    sub-t11
-    mul-t14
-    add-t15
-    mul-t16
-    add-t17
-    mul-t18
-    add-t19
-    returns-4)
+    sub-w
+    mul-w
+    add-w
+    mul-w-2
+    add-w-2
+    mul-w-3
+    add-w-3
+    returns-4
+    returns-5)

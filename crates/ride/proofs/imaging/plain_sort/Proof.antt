@@ -9,10 +9,10 @@ all-sets-requires : tie.Need-all-sets-requires
 all-sets-requires c κs = search needs
 
 returns : tie.Need-returns
-returns c = (sym (picked 1 2 (sym (c .before .all-sets .ensures) ∙ c .if1 .taken)), refl)
+returns c = (sym (picked 2 3 (sym (c .before .all-sets .ensures) ∙ c .if1 .taken)), refl)
 
 returns-2 : tie.Need-returns-2
-returns-2 c = (sym (passed 1 2 (sym (c .before .all-sets .ensures) ∙ c .if1 .left)), refl)
+returns-2 c = (sym (passed 2 3 (sym (c .before .all-sets .ensures) ∙ c .if1 .left)), refl)
 
 pub plain-sort-spec : {M : Type 1} → statement M
 plain-sort-spec = tie.close (tie.spec all-sets-requires returns returns-2)

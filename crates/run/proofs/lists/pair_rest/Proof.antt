@@ -1,6 +1,6 @@
 -- `run::lists::pair_rest` meets its contract. Assumes nothing.
 use mathlib.Core.Path.{sym, _∙_, refl}
-use lib.ListN.{getD}
+use lib.ListN.{getD, length-set}
 use lib.IntN.{pos}
 use mir.Val.{SFits}
 use mir.Syntax.{w16}
@@ -23,8 +23,11 @@ enum-told c = search needs
 mul-x : tie.Need-mul-x
 mul-x c = search needs
 
-element-set-from-x : tie.Need-element-set-from-x
-element-set-from-x c = search needs
+slice-set-from-x : tie.Need-slice-set-from-x
+slice-set-from-x c = search needs
+
+same-length : tie.Need-same-length
+same-length c = simp length-set
 
 returns : tie.Need-returns
 returns c = let h : SFits w16 (c .before .before .before .before .args .x) = search needs in rw (toZ-ofZ w16 (c .before .before .before .before .args .x) h) (tried-none _ _ _ _ _ (sym (c .before .before .read-cmd .ensures) ∙ c .enum-told .given .1))
@@ -47,14 +50,17 @@ held-requires c κs = search needs
 mul-x-2 : tie.Need-mul-x-2
 mul-x-2 c = search needs
 
-element-set-from-x-2 : tie.Need-element-set-from-x-2
-element-set-from-x-2 c = search needs
+slice-set-from-x-2 : tie.Need-slice-set-from-x-2
+slice-set-from-x-2 c = search needs
 
 mul-v : tie.Need-mul-v
 mul-v c = let f = put-facts _ _ _ (sym (c .before .before .before .before .before .before .read-cmd .ensures) ∙ c .before .before .before .before .o .given .1) in omega arith
 
-element-set-from-v : tie.Need-element-set-from-v
-element-set-from-v c = put-facts _ _ _ (sym (c .before .before .before .before .before .before .read-cmd .ensures) ∙ c .before .before .before .before .o .given .1) .0
+slice-set-from-v : tie.Need-slice-set-from-v
+slice-set-from-v c = let f = put-facts _ _ _ (sym (c .before .before .before .before .before .before .read-cmd .ensures) ∙ c .before .before .before .before .o .given .1) in simp length-set (omega arith)
+
+same-length-2 : tie.Need-same-length-2
+same-length-2 c = simp length-set
 
 returns-3 : tie.Need-returns-3
 returns-3 c = let h : SFits w16 (c .before .before .before .before .before .before .before .before .args .x) = search needs in rw (toZ-ofZ w16 (c .before .before .before .before .before .before .before .before .args .x) h, c .held .ensures, toZ-ofZ w16 (pos (c .before .before .before .before .before .before .before .before .args .place)) (place-fits (c .before .before .before .before .before .before .before .before .args .place) (c .before .before .before .before .before .before .before .before .pre .0))) (tried-put _ _ _ _ _ _ (sym (c .before .before .before .before .before .before .read-cmd .ensures) ∙ c .before .before .before .before .o .given .1) (c .before .before .alone .ensures) (not-false _ (c .before .if1 .left)) refl)
@@ -74,20 +80,23 @@ returns-4 c = tried-not _ _ _ _ _
 mul-y : tie.Need-mul-y
 mul-y c = let f = move-facts _ _ _ _ (sym (c .before .before .before .before .before .read-cmd .ensures) ∙ c .before .before .before .o2 .given .1) in omega arith
 
-element-copy-out-y : tie.Need-element-copy-out-y
-element-copy-out-y c = move-facts _ _ _ _ (sym (c .before .before .before .before .before .read-cmd .ensures) ∙ c .before .before .before .o2 .given .1) .1
+slice-copy-out-y : tie.Need-slice-copy-out-y
+slice-copy-out-y c = let f = move-facts _ _ _ _ (sym (c .before .before .before .before .before .read-cmd .ensures) ∙ c .before .before .before .o2 .given .1) in omega arith
 
 mul-x-3 : tie.Need-mul-x-3
 mul-x-3 c = search needs
 
-element-set-from-x-3 : tie.Need-element-set-from-x-3
-element-set-from-x-3 c = search needs
+slice-set-from-x-3 : tie.Need-slice-set-from-x-3
+slice-set-from-x-3 c = search needs
 
 mul-y-2 : tie.Need-mul-y-2
 mul-y-2 c = let f = move-facts _ _ _ _ (sym (c .before .before .before .before .before .before .read-cmd .ensures) ∙ c .before .before .before .before .o2 .given .1) in omega arith
 
-element-set-from-y : tie.Need-element-set-from-y
-element-set-from-y c = move-facts _ _ _ _ (sym (c .before .before .before .before .before .before .read-cmd .ensures) ∙ c .before .before .before .before .o2 .given .1) .0
+slice-set-from-y : tie.Need-slice-set-from-y
+slice-set-from-y c = let f = move-facts _ _ _ _ (sym (c .before .before .before .before .before .before .read-cmd .ensures) ∙ c .before .before .before .before .o2 .given .1) in simp length-set (omega arith)
+
+same-length-3 : tie.Need-same-length-3
+same-length-3 c = simp length-set
 
 returns-5 : tie.Need-returns-5
 returns-5 c = let h : SFits w16 (c .before .before .before .before .before .before .before .before .args .x) = search needs in let g : SFits w16 (getD (c .before .before .before .before .before .before .before .before .args .bank .now) (c .before .before .before .before .o2 .given .0 .1 .0) (pos 0)) = search needs in rw (toZ-ofZ w16 (c .before .before .before .before .before .before .before .before .args .x) h, toZ-ofZ w16 (getD (c .before .before .before .before .before .before .before .before .args .bank .now) (c .before .before .before .before .o2 .given .0 .1 .0) (pos 0)) g) (tried-move _ _ _ _ _ _ _ (sym (c .before .before .before .before .before .before .read-cmd .ensures) ∙ c .before .before .before .before .o2 .given .1) (c .before .before .alone2 .ensures) (not-false _ (c .before .if2 .left)) refl)
@@ -99,7 +108,8 @@ pair-rest-spec =
     read-cmd-requires
     enum-told
     mul-x
-    element-set-from-x
+    slice-set-from-x
+    same-length
     returns
     enum-known-o
     add-alone
@@ -107,18 +117,20 @@ pair-rest-spec =
     returns-2
     held-requires
     mul-x-2
-    element-set-from-x-2
+    slice-set-from-x-2
     mul-v
-    element-set-from-v
+    slice-set-from-v
+    same-length-2
     returns-3
     enum-known-o-2
     add-alone-2
     alone-requires-2
     returns-4
     mul-y
-    element-copy-out-y
+    slice-copy-out-y
     mul-x-3
-    element-set-from-x-3
+    slice-set-from-x-3
     mul-y-2
-    element-set-from-y
+    slice-set-from-y
+    same-length-3
     returns-5)

@@ -1,0 +1,150 @@
+// The fast way over an image: entries of kind 0, none or one SET alone. The bank has 128 cells, so that both are one
+// store; what lies past the 64 registers is never read.
+ghost use mathlib.Core.Path.{_≡_};
+ghost use Prim.Native.Nat.{_≤_, _<_};
+ghost use lib.ListN.{length};
+ghost use Rattle.card.specs.Run.{lineMax};
+ghost use Rattle.ride.specs.Need.{Glidable, Reached, Hopped};
+
+// A row that no situation has.
+pub const ASTRAY: usize = 32768;
+
+// Where a line got to: the bytes taken, and the row of its situation.
+pub struct Reach {
+    pub place: usize,
+    pub row: usize,
+}
+
+// Where two lines got to.
+pub struct Reaches {
+    pub place: usize,
+    pub row: usize,
+    pub place2: usize,
+    pub row2: usize,
+}
+
+// An entry of an image as an index.
+pub fn word(x: u32) -> usize
+    ensures { λ r. ⌜ r ≡ x ⌝ }
+{
+    x as usize
+}
+
+// As far as a line's entries are of kind 0 and lead to a row below the limit. An entry that is the row's place and 64
+// stays without commands; where a situation leads to itself the row stays, so that the next load does not wait.
+pub fn glide(
+    image: &[u32],
+    limit: usize,
+    line: &[u8],
+    from: usize,
+    first: usize,
+    bank: &mut [i16; 128],
+) -> Reach
+    requires { ⌜ Glidable (now image) limit (now line) from first ⌝ }
+    ensures { λ r. ⌜ Reached (now (image .entry)) (now (line .entry)) limit from first (now (bank .entry)) (r .place) (r .row) (now (bank .exit)) ⌝ }
+{
+    let mut row = first;
+    let mut place = from;
+    while place < line.len() {
+        let b = ground::wide(line[place]);
+        let e = word(image[row + b]);
+        if e != row + 64 {
+            if 1073741824 <= e {
+                return Reach { place, row };
+            }
+            let next = e / 256 % 128 * 256;
+            if next != row {
+                if limit <= next {
+                    return Reach { place, row };
+                }
+                row = next;
+            }
+            let v = ground::held(place + 1);
+            bank[e % 128] = v;
+        }
+        place += 1;
+    }
+    Reach { place, row }
+}
+
+// The lesser of two lengths.
+fn least(a: usize, b: usize) -> usize
+    ensures { λ r. ⌜ (r ≤ a) × (r ≤ b) ⌝ }
+{
+    if a < b {
+        return a;
+    }
+    b
+}
+
+// An entry taken if it glides: the next row, or ASTRAY with nothing stored.
+fn hop(e: usize, limit: usize, row: usize, place: usize, bank: &mut [i16; 128]) -> usize
+    requires { ⌜ (row < 32768) × (place ≤ lineMax) ⌝ }
+    ensures { λ r. ⌜ Hopped e limit row place (now (bank .entry)) r (now (bank .exit)) ⌝ }
+{
+    if e == row + 64 {
+        return row;
+    }
+    if 1073741824 <= e {
+        return ASTRAY;
+    }
+    let next = e / 256 % 128 * 256;
+    if limit <= next {
+        return ASTRAY;
+    }
+    let v = ground::held(place);
+    bank[e % 128] = v;
+    next
+}
+
+// Two lines in step from their beginning on, until one of them ends or has an entry that does not glide. Both entries
+// are loaded before either is taken, so that the loads overlap.
+pub fn glide_two(
+    image: &[u32],
+    limit: usize,
+    line: &[u8],
+    other: &[u8],
+    bank: &mut [i16; 128],
+    beside: &mut [i16; 128],
+) -> Reaches
+    requires { ⌜ Glidable (now image) limit (now line) 0 0 × Glidable (now image) limit (now other) 0 0 ⌝ }
+    ensures { λ r. ⌜ Reached (now (image .entry)) (now (line .entry)) limit 0 0 (now (bank .entry)) (r .place) (r .row) (now (bank .exit)) × Reached (now (image .entry)) (now (other .entry)) limit 0 0 (now (beside .entry)) (r .place2) (r .row2) (now (beside .exit)) ⌝ }
+{
+    let until = least(line.len(), other.len());
+    let mut row: usize = 0;
+    let mut row2: usize = 0;
+    let mut i: usize = 0;
+    while i < until {
+        let b = ground::wide(line[i]);
+        let e = word(image[row + b]);
+        let c = ground::wide(other[i]);
+        let f = word(image[row2 + c]);
+        let next = hop(e, limit, row, i + 1, bank);
+        if next == ASTRAY {
+            return Reaches {
+                place: i,
+                row,
+                place2: i,
+                row2,
+            };
+        }
+        row = next;
+        let next2 = hop(f, limit, row2, i + 1, beside);
+        if next2 == ASTRAY {
+            return Reaches {
+                place: i + 1,
+                row,
+                place2: i,
+                row2,
+            };
+        }
+        row2 = next2;
+        i += 1;
+    }
+    Reaches {
+        place: i,
+        row,
+        place2: i,
+        row2,
+    }
+}
