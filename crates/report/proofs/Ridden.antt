@@ -5,7 +5,7 @@ use mathlib.Core.List.{List}
 use Prim.Native.Nat.{ℕ, _<_, _≤_}
 use native.Mathlib.Omega.{arith}
 use lib.ListN.{length, getD}
-use Rattle.card.specs.Run.{lineMax, refused}
+use Rattle.card.specs.Run.{lineMax, Told, refused}
 use Rattle.card.specs.Judged.{Judged}
 use Rattle.card.specs.Decode.{tableAt}
 use Rattle.ground.proofs.Tests.{lt-or-le}
@@ -16,9 +16,10 @@ use Rattle.ground.proofs.Every.{all-bytes}
 use Rattle.ride.specs.Image.{Mounts, unfit, small, written}
 use Rattle.ride.specs.Ride.{ridden}
 use Rattle.ride.proofs.Same.{ride-is-run}
+use Rattle.report.specs.Text.{Wrote}
 use Rattle.report.specs.Printed.{toldLine, recordLine}
 use Rattle.report.specs.Steps.{Mounted}
-use Rattle.report.proofs.Choosing.{told-refused, record-long, record-told}
+use Rattle.report.proofs.Choosing.{wrote-as, told-refused, record-long, record-told}
 
 -- mounting refuses no taken table
 mounts-taken : {s old new : List ℕ} {c : ℕ} → Mounts s old new c → Judged s 0 → length old ≡ 24672 → c ≡ 0
@@ -42,3 +43,7 @@ module _ {s image : List ℕ} (m : Mounted s image) (w : List ℕ) (b : (i : ℕ
   -- what a ride tells of a record is the record's line
   pub ridden-line : toldLine (ridden s image w) ≡ recordLine (tableAt s) w
   ridden-line = by-length (lt-or-le lineMax (length w))
+
+  -- what is written of a ride's result is the record's line
+  pub rode-line : {a b : List ℕ} {at r : ℕ} {t : Told} → t ≡ ridden s image w → Wrote a b at r (toldLine t) → Wrote a b at r (recordLine (tableAt s) w)
+  rode-line e wrote = wrote-as (ap toldLine e ∙ ridden-line) wrote

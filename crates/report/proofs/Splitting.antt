@@ -68,13 +68,13 @@ ends-last (b ∷ s) (suc i) h = ends-last s i (omega arith)
 pub going-none : (a : List ℕ) (at : ℕ) (whole : List ℕ) → Going a a at at whole whole
 going-none a at whole = record { text = []; wrote = wrote-none a at; rest = refl }
 
-module _ {a b : List ℕ} {at m : ℕ} {whole : List ℕ} where
-  pub going-on : {c : List ℕ} {r : ℕ} {t left : List ℕ} → Going a b at m whole (t ++ left) → Wrote b c m r t → Going a c at r whole left
-  going-on {c} {r} {t} {left} g w =
-      record { text = g .text ++ t; wrote = wrote-then (g .wrote) w; rest = append-assoc (g .text) t left ∙ g .rest }
+module _ {a b : List ℕ} {at m : ℕ} {whole left : List ℕ} where
+  pub going-on : {c : List ℕ} {r : ℕ} {t more : List ℕ} → left ≡ t ++ more → Going a b at m whole left → Wrote b c m r t → Going a c at r whole more
+  going-on {c} {r} {t} {more} e g w =
+      record { text = g .text ++ t; wrote = wrote-then (g .wrote) w; rest = append-assoc (g .text) t more ∙ ap (λ l. g .text ++ l) (sym e) ∙ g .rest }
 
-  pub going-done : Going a b at m whole [] → Wrote a b at m whole
-  going-done g = subst (Wrote a b at m) (sym (append-nil (g .text)) ∙ g .rest) (g .wrote)
+  pub going-done : left ≡ [] → Going a b at m whole left → Wrote a b at m whole
+  going-done e g = subst (Wrote a b at m) (sym (append-nil (g .text)) ∙ ap (λ l. g .text ++ l) (sym e) ∙ g .rest) (g .wrote)
 
 module _ (f : List ℕ → List ℕ) (s : List ℕ) (place : ℕ) where
   -- the line at a place and those after it
@@ -91,3 +91,12 @@ module _ (f : List ℕ → List ℕ) (s : List ℕ) (place : ℕ) where
 
   pub no-line-left : length s ≤ place → each f (lines (drop place s)) ≡ []
   no-line-left h = ap (each f) (no-line s place h)
+
+-- the line at a place, the one after it, and those after both
+pub next-two : (f : List ℕ → List ℕ) (s : List ℕ) (place : ℕ) → place < length s → (stop : ℕ) → stop ≡ place + lineLength (drop place s) → stop + 1 < length s
+    → (last : ℕ) → last ≡ stop + 1 + lineLength (drop (stop + 1) s)
+    → each f (lines (drop place s)) ≡ (f (take (stop - place) (drop place s)) ++ f (take (last - (stop + 1)) (drop (stop + 1) s))) ++ each f (lines (drop (last + 1) s))
+next-two f s place h stop e k last d =
+    rw append-assoc
+    (next-line f s place h stop e
+    ∙ ap (λ t. f (take (stop - place) (drop place s)) ++ t) (next-line f s (stop + 1) k last d))

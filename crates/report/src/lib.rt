@@ -1,6 +1,6 @@
 // What the program prints, as bytes in a lent buffer.
 ghost use mathlib.Core.Path.{_≡_};
-ghost use mathlib.Core.List.{[], _∷_};
+ghost use mathlib.Core.List.{[], _∷_, _++_};
 ghost use Prim.Native.Nat.{_+_, _<_, _≤_};
 ghost use lib.IntN.{pos};
 ghost use lib.ListN.{length, getD, drop};
@@ -192,7 +192,27 @@ fn put_record(out: &mut [u8], at: usize, table: &[u8], image: &[u32], line: &[u8
     put_told(out, at, told)
 }
 
-// The records from a place on.
+// Two records, which ride in step.
+fn put_two(
+    out: &mut [u8],
+    at: usize,
+    table: &[u8],
+    image: &[u32],
+    line: &[u8],
+    other: &[u8],
+) -> usize
+    requires { ⌜ at + 144 ≤ length (now out) ⌝ }
+    requires { ⌜ Mounted (now table) (now image) ⌝ }
+    ensures { λ r. ⌜ Wrote (now (out .entry)) (now (out .exit)) at r (recordLine (tableAt (now (table .entry))) (now (line .entry)) ++ recordLine (tableAt (now (table .entry))) (now (other .entry))) × (r ≤ at + 144) ⌝ }
+{
+    let told = ride::ride_two(table, image, line, other);
+    let first = told.first;
+    let second = told.second;
+    let end = put_told(out, at, first);
+    put_told(out, end, second)
+}
+
+// The records from a place on, two at a time; a last one may be alone.
 fn put_records(
     out: &mut [u8],
     at: usize,
@@ -208,8 +228,20 @@ fn put_records(
     let mut place = from;
     while place < input.len() {
         let stop = line_end(input, place);
-        end = put_record(out, end, table, image, &input[place..stop]);
-        place = stop + 1;
+        let next = stop + 1;
+        if input.len() <= next {
+            return put_record(out, end, table, image, &input[place..stop]);
+        }
+        let last = line_end(input, next);
+        end = put_two(
+            out,
+            end,
+            table,
+            image,
+            &input[place..stop],
+            &input[next..last],
+        );
+        place = last + 1;
     }
     end
 }

@@ -1,8 +1,5 @@
 -- `report::put_record` meets its contract: the line of what the ride told. Assumes nothing.
-use mathlib.Core.Path.{ap, _∙_}
-use Rattle.report.specs.Printed.{toldLine}
-use Rattle.report.proofs.Choosing.{wrote-as}
-use Rattle.report.proofs.Ridden.{ridden-line}
+use Rattle.report.proofs.Ridden.{rode-line}
 use borrow.Author.Needs.{needs}
 use Rattle.report.proofs.put_record.Statement.{statement}
 use Rattle.report.proofs.put_record.Tie as tie
@@ -18,10 +15,9 @@ same-length c = search needs
 
 returns : tie.Need-returns
 returns c =
-    let told = c .before .before .before .before .ride .ensures in
-    let line = ridden-line (c .before .before .before .before .before .before .before .before .before .pre .1) _ (λ i. c .before .before .before .before .before .shared-slice-known3 .given i .fits) in
+    let m = c .before .before .before .before .before .before .before .before .before .pre .1 in
     let w = c .before .before .put-told .ensures in
-    (wrote-as (ap toldLine told ∙ line) (w .0), w .1)
+    (rode-line m _ (λ i. c .before .before .before .before .before .shared-slice-known3 .given i .fits) (c .before .before .before .before .ride .ensures) (w .0), w .1)
 
 pub put-record-spec : {M : Type 1} → statement M
 put-record-spec = tie.close (tie.spec ride-requires put-told-requires same-length returns)

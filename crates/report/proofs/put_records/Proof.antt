@@ -1,14 +1,13 @@
--- `report::put_records` meets its contract: what is left of the records is still to be written. Assumes nothing.
+-- `report::put_records` meets its contract: what is left of the records is still to be written; each round takes two of them off. Assumes nothing.
 use Prim.Native.Nat.{_+_, _*_, _-_, _≤_}
 use native.Mathlib.Omega.{arith}
-use mathlib.Core.Path.{subst}
 use borrow.Author.Needs.{needs}
 use lib.ListN.{length, drop}
 use Rattle.ground.specs.Lists.{each}
 use Rattle.card.specs.Decode.{tableAt}
 use Rattle.report.specs.Printed.{lines, recordLine}
 use Rattle.report.specs.Steps.{Going}
-use Rattle.report.proofs.Splitting.{going-none, going-on, going-done, next-line, no-line-left}
+use Rattle.report.proofs.Splitting.{going-none, going-on, going-done, next-line, next-two, no-line-left}
 use Rattle.report.proofs.put_records.Statement.{statement}
 use Rattle.report.proofs.put_records.Tie as tie
 
@@ -24,6 +23,9 @@ loop-holds c = (going-none _ _ _, c .before .before .before .before .pre .low)
 line-end-requires : tie.Need-line-end-requires Inv-loop μ-loop
 line-end-requires c κs = search needs
 
+add-next : tie.Need-add-next Inv-loop μ-loop
+add-next c = search needs
+
 sub-put-record : tie.Need-sub-put-record Inv-loop μ-loop
 sub-put-record c = search needs
 
@@ -35,10 +37,50 @@ part-put-record-end c = search needs
 
 put-record-requires : tie.Need-put-record-requires Inv-loop μ-loop
 put-record-requires c κs =
-    let p = c .before .before .before .before .before .before .before .before .before .pre in
-    let g = c .before .before .before .before .loop .inv in
+    let p = c .before .before .before .before .before .before .before .before .before .before .pre in
+    let g = c .before .before .before .before .before .loop .inv in
     let s = g .0 .wrote .size in
     (omega (arith, g .1, p .few, p .wide), p .mounted)
+
+same-length : tie.Need-same-length Inv-loop μ-loop
+same-length c = search needs
+
+returns : tie.Need-returns Inv-loop μ-loop
+returns c =
+    let a = c .before .before .before .before .before .before .before .before .before .before .before .before .before .args in
+    let l = c .before .before .before .before .before .before .before .before .loop in
+    let e = c .before .before .before .before .before .before .line-end in
+    let f = recordLine (tableAt (a .table .now)) in
+    let n = next-line f (a .input .now) (l .place) (c .before .before .before .before .before .before .before .loop-test .taken) (e .result) (e .ensures .0) in
+    going-done (no-line-left f (a .input .now) (e .result + 1) (c .before .before .before .before .before .if1 .taken)) (going-on n (l .inv .0) (c .before .before .put-record .ensures .0))
+
+line-end-requires-2 : tie.Need-line-end-requires-2 Inv-loop μ-loop
+line-end-requires-2 c κs = search needs
+
+sub-put-two : tie.Need-sub-put-two Inv-loop μ-loop
+sub-put-two c = search needs
+
+part-put-two-start : tie.Need-part-put-two-start Inv-loop μ-loop
+part-put-two-start c = search needs
+
+part-put-two-end : tie.Need-part-put-two-end Inv-loop μ-loop
+part-put-two-end c = search needs
+
+sub-put-two-2 : tie.Need-sub-put-two-2 Inv-loop μ-loop
+sub-put-two-2 c = search needs
+
+part-put-two-start-2 : tie.Need-part-put-two-start-2 Inv-loop μ-loop
+part-put-two-start-2 c = search needs
+
+part-put-two-end-2 : tie.Need-part-put-two-end-2 Inv-loop μ-loop
+part-put-two-end-2 c = search needs
+
+put-two-requires : tie.Need-put-two-requires Inv-loop μ-loop
+put-two-requires c κs =
+    let p = c .before .before .before .before .before .before .before .before .before .before .before .before .pre in
+    let g = c .before .before .before .before .before .before .before .loop .inv in
+    let s = g .0 .wrote .size in
+    (omega (arith, g .1, p .few, p .wide, c .before .before .before .before .before .line-end .ensures .0, c .before .before .before .before .if1 .left), p .mounted)
 
 add-place : tie.Need-add-place Inv-loop μ-loop
 add-place c = search needs
@@ -48,23 +90,22 @@ loop-less c = search needs
 
 loop-again : tie.Need-loop-again Inv-loop μ-loop
 loop-again c =
-    let a = c .before .before .before .before .before .before .before .before .before .before .before .before .args in
-    let l = c .before .before .before .before .before .before .before .loop in
-    let e = c .before .before .before .before .before .line-end .ensures in
-    let w = c .before .before .put-record .ensures in
-    let n = next-line (recordLine (tableAt (a .table .now))) (a .input .now) (l .place) (c .before .before .before .before .before .before .loop-test .taken) (c .before .before .before .before .before .line-end .result) (e .0) in
-    let g = subst (Going (a .out .now) (l .out) (a .at) (l .end) (each (recordLine (tableAt (a .table .now))) (lines (drop (a .from) (a .input .now))))) n (l .inv .0) in
-    (going-on g (w .0), omega (arith, l .inv .1, w .1, e .0))
+    let a = c .before .before .before .before .before .before .before .before .before .before .before .before .before .before .before .args in
+    let l = c .before .before .before .before .before .before .before .before .before .before .loop in
+    let e = c .before .before .before .before .before .before .before .before .line-end in
+    let d = c .before .before .before .before .before .before .line-end2 in
+    let w = c .before .before .put-two .ensures in
+    let n = next-two (recordLine (tableAt (a .table .now))) (a .input .now) (l .place) (c .before .before .before .before .before .before .before .before .before .loop-test .taken) (e .result) (e .ensures .0) (c .before .before .before .before .before .before .before .if1 .left) (d .result) (d .ensures .0) in
+    (going-on n (l .inv .0) (w .0), omega (arith, l .inv .1, w .1, e .ensures .0, d .ensures .0))
 
-same-length : tie.Need-same-length Inv-loop μ-loop
-same-length c = search needs
+same-length-2 : tie.Need-same-length-2 Inv-loop μ-loop
+same-length-2 c = search needs
 
-returns : tie.Need-returns Inv-loop μ-loop
-returns c =
+returns-2 : tie.Need-returns-2 Inv-loop μ-loop
+returns-2 c =
     let a = c .before .before .before .before .before .before .args in
     let l = c .before .loop in
-    let n = no-line-left (recordLine (tableAt (a .table .now))) (a .input .now) (l .place) (c .loop-test .left) in
-    going-done (subst (Going (a .out .now) (l .out) (a .at) (l .end) (each (recordLine (tableAt (a .table .now))) (lines (drop (a .from) (a .input .now))))) n (l .inv .0))
+    going-done (no-line-left (recordLine (tableAt (a .table .now))) (a .input .now) (l .place) (c .loop-test .left)) (l .inv .0)
 
 pub put-records-spec : {M : Type 1} → statement M
 put-records-spec =
@@ -74,12 +115,23 @@ put-records-spec =
     μ-loop
     loop-holds
     line-end-requires
+    add-next
     sub-put-record
     part-put-record-start
     part-put-record-end
     put-record-requires
+    same-length
+    returns
+    line-end-requires-2
+    sub-put-two
+    part-put-two-start
+    part-put-two-end
+    sub-put-two-2
+    part-put-two-start-2
+    part-put-two-end-2
+    put-two-requires
     add-place
     loop-less
     loop-again
-    same-length
-    returns)
+    same-length-2
+    returns-2)
