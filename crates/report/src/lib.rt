@@ -228,19 +228,14 @@ fn put_records(
     let mut place = from;
     while place < input.len() {
         let stop = line_end(input, place);
+        let line = &input[place..stop];
         let next = stop + 1;
         if input.len() <= next {
-            return put_record(out, end, table, image, &input[place..stop]);
+            return put_record(out, end, table, image, line);
         }
         let last = line_end(input, next);
-        end = put_two(
-            out,
-            end,
-            table,
-            image,
-            &input[place..stop],
-            &input[next..last],
-        );
+        let other = &input[next..last];
+        end = put_two(out, end, table, image, line, other);
         place = last + 1;
     }
     end

@@ -23,17 +23,17 @@ loop-holds c = (going-none _ _ _, c .before .before .before .before .pre .low)
 line-end-requires : tie.Need-line-end-requires Inv-loop μ-loop
 line-end-requires c κs = search needs
 
+sub-line : tie.Need-sub-line Inv-loop μ-loop
+sub-line c = search needs
+
+part-line-start : tie.Need-part-line-start Inv-loop μ-loop
+part-line-start c = search needs
+
+part-line-end : tie.Need-part-line-end Inv-loop μ-loop
+part-line-end c = search needs
+
 add-next : tie.Need-add-next Inv-loop μ-loop
 add-next c = search needs
-
-sub-put-record : tie.Need-sub-put-record Inv-loop μ-loop
-sub-put-record c = search needs
-
-part-put-record-start : tie.Need-part-put-record-start Inv-loop μ-loop
-part-put-record-start c = search needs
-
-part-put-record-end : tie.Need-part-put-record-end Inv-loop μ-loop
-part-put-record-end c = search needs
 
 put-record-requires : tie.Need-put-record-requires Inv-loop μ-loop
 put-record-requires c κs =
@@ -52,35 +52,26 @@ returns c =
     let e = c .before .before .before .before .before .before .line-end in
     let f = recordLine (tableAt (a .table .now)) in
     let n = next-line f (a .input .now) (l .place) (c .before .before .before .before .before .before .before .loop-test .taken) (e .result) (e .ensures .0) in
-    going-done (no-line-left f (a .input .now) (e .result + 1) (c .before .before .before .before .before .if1 .taken)) (going-on n (l .inv .0) (c .before .before .put-record .ensures .0))
+    going-done (no-line-left f (a .input .now) (e .result + 1) (c .before .before .before .before .if1 .taken)) (going-on n (l .inv .0) (c .before .before .put-record .ensures .0))
 
 line-end-requires-2 : tie.Need-line-end-requires-2 Inv-loop μ-loop
 line-end-requires-2 c κs = search needs
 
-sub-put-two : tie.Need-sub-put-two Inv-loop μ-loop
-sub-put-two c = search needs
+sub-other : tie.Need-sub-other Inv-loop μ-loop
+sub-other c = search needs
 
-part-put-two-start : tie.Need-part-put-two-start Inv-loop μ-loop
-part-put-two-start c = search needs
+part-other-start : tie.Need-part-other-start Inv-loop μ-loop
+part-other-start c = search needs
 
-part-put-two-end : tie.Need-part-put-two-end Inv-loop μ-loop
-part-put-two-end c = search needs
-
-sub-put-two-2 : tie.Need-sub-put-two-2 Inv-loop μ-loop
-sub-put-two-2 c = search needs
-
-part-put-two-start-2 : tie.Need-part-put-two-start-2 Inv-loop μ-loop
-part-put-two-start-2 c = search needs
-
-part-put-two-end-2 : tie.Need-part-put-two-end-2 Inv-loop μ-loop
-part-put-two-end-2 c = search needs
+part-other-end : tie.Need-part-other-end Inv-loop μ-loop
+part-other-end c = search needs
 
 put-two-requires : tie.Need-put-two-requires Inv-loop μ-loop
 put-two-requires c κs =
     let p = c .before .before .before .before .before .before .before .before .before .before .before .before .pre in
     let g = c .before .before .before .before .before .before .before .loop .inv in
     let s = g .0 .wrote .size in
-    (omega (arith, g .1, p .few, p .wide, c .before .before .before .before .before .line-end .ensures .0, c .before .before .before .before .if1 .left), p .mounted)
+    (omega (arith, g .1, p .few, p .wide, c .before .before .before .before .before .line-end .ensures .0, c .before .before .before .if1 .left), p .mounted)
 
 add-place : tie.Need-add-place Inv-loop μ-loop
 add-place c = search needs
@@ -93,9 +84,9 @@ loop-again c =
     let a = c .before .before .before .before .before .before .before .before .before .before .before .before .before .before .before .args in
     let l = c .before .before .before .before .before .before .before .before .before .before .loop in
     let e = c .before .before .before .before .before .before .before .before .line-end in
-    let d = c .before .before .before .before .before .before .line-end2 in
+    let d = c .before .before .before .before .before .line-end2 in
     let w = c .before .before .put-two .ensures in
-    let n = next-two (recordLine (tableAt (a .table .now))) (a .input .now) (l .place) (c .before .before .before .before .before .before .before .before .before .loop-test .taken) (e .result) (e .ensures .0) (c .before .before .before .before .before .before .before .if1 .left) (d .result) (d .ensures .0) in
+    let n = next-two (recordLine (tableAt (a .table .now))) (a .input .now) (l .place) (c .before .before .before .before .before .before .before .before .before .loop-test .taken) (e .result) (e .ensures .0) (c .before .before .before .before .before .before .if1 .left) (d .result) (d .ensures .0) in
     (going-on n (l .inv .0) (w .0), omega (arith, l .inv .1, w .1, e .ensures .0, d .ensures .0))
 
 same-length-2 : tie.Need-same-length-2 Inv-loop μ-loop
@@ -115,20 +106,17 @@ put-records-spec =
     μ-loop
     loop-holds
     line-end-requires
+    sub-line
+    part-line-start
+    part-line-end
     add-next
-    sub-put-record
-    part-put-record-start
-    part-put-record-end
     put-record-requires
     same-length
     returns
     line-end-requires-2
-    sub-put-two
-    part-put-two-start
-    part-put-two-end
-    sub-put-two-2
-    part-put-two-start-2
-    part-put-two-end-2
+    sub-other
+    part-other-start
+    part-other-end
     put-two-requires
     add-place
     loop-less
