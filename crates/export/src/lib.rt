@@ -1,6 +1,6 @@
 // The calls under C names, for tests, benchmarks and firmware: numbers and byte slices only.
 ghost use mathlib.Core.Path.{_≡_};
-ghost use lib.ListN.{length};
+ghost use lib.ListN.{length, getD};
 ghost use Rattle.ground.specs.Place.{placeOf};
 ghost use Rattle.field.specs.Field.{cutOf, codeOf, bytesOf};
 ghost use Rattle.net.specs.Count.{byteCount};
@@ -143,4 +143,29 @@ pub extern "C" fn cv_ride(
     *answer = r.answer;
     *places = p;
     r.code
+}
+
+// A ride of two lines in step, each as if alone: the codes and the answers in this order, and the places of each.
+#[no_mangle]
+pub extern "C" fn cv_ride_two(
+    table: &[u8],
+    image: &[u32],
+    line: &[u8],
+    other: &[u8],
+    codes: &mut [u8; 2],
+    answers: &mut [u8; 2],
+    first: &mut [i16; 8],
+    second: &mut [i16; 8],
+)
+    ensures { λ _. ⌜ (told (getD (now (codes .exit)) 0 0) (getD (now (answers .exit)) 0 0) (now (first .exit)) ≡ ridden (now (table .entry)) (now (image .entry)) (now (line .entry))) × (told (getD (now (codes .exit)) 1 0) (getD (now (answers .exit)) 1 0) (now (second .exit)) ≡ ridden (now (table .entry)) (now (image .entry)) (now (other .entry))) ⌝ }
+{
+    let r = ride::ride_two(table, image, line, other);
+    let a = r.first;
+    let b = r.second;
+    let p = a.places;
+    let q = b.places;
+    *codes = [a.code, b.code];
+    *answers = [a.answer, b.answer];
+    *first = p;
+    *second = q;
 }
