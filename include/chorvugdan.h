@@ -49,10 +49,10 @@ enum cv_code {
     CV_REGISTERS = 10,    /* cv_build: a situation needs more than 64 registers */
     CV_SITUATIONS = 11,   /* cv_build: more than 96 situations */
     CV_OUT_SMALL = 12,    /* cv_pattern, cv_build, cv_mount: the output is shorter than the whole result */
-    CV_TABLE_FORM = 13,   /* cv_load, cv_run, cv_mount, cv_ride: not the form of a card, or of its image */
+    CV_TABLE_FORM = 13,   /* cv_load, cv_run, cv_mount, cv_ride, cv_ride_two: not the form of a card, or of its image */
     CV_EMPTY_READ = 14,   /* cv_load, cv_run, cv_mount: some line would read an empty register */
-    CV_LINE_LONG = 15,    /* cv_run, cv_ride: the line has more than 32,767 bytes */
-    CV_NO_MATCH = 16,     /* cv_run, cv_ride: the line is not of the pattern */
+    CV_LINE_LONG = 15,    /* cv_run, cv_ride, cv_ride_two: the line has more than 32,767 bytes */
+    CV_NO_MATCH = 16,     /* cv_run, cv_ride, cv_ride_two: the line is not of the pattern */
     CV_FIELD_ABSENT = 17, /* cv_field_code, cv_reading_code: one of the two places is absent */
     CV_FIELD_BACK = 18,   /* cv_field_code, cv_reading_code: the part would end before it starts */
     CV_FIELD_PAST = 19,   /* cv_field_code, cv_reading_code: the part would end past the line */
@@ -105,6 +105,14 @@ uint8_t cv_mount(const uint8_t *table, size_t table_len, uint32_t *image, size_t
  */
 uint8_t cv_ride(const uint8_t *table, size_t table_len, const uint32_t *image, size_t image_len,
                 const uint8_t *line, size_t line_len, uint8_t *answer, int16_t places[CV_TAGS]);
+
+/*
+ * Runs over two lines by an image, in step. codes[0], answers[0] and first are what cv_ride gives of `line`; codes[1],
+ * answers[1] and second what it gives of `other`. Neither line has a say in what is told of the other.
+ */
+void cv_ride_two(const uint8_t *table, size_t table_len, const uint32_t *image, size_t image_len,
+                 const uint8_t *line, size_t line_len, const uint8_t *other, size_t other_len,
+                 uint8_t codes[2], uint8_t answers[2], int16_t first[CV_TAGS], int16_t second[CV_TAGS]);
 
 /*
  * The part of a line from one place to another: CV_OK, or 17 if a place is negative, 18 if

@@ -292,6 +292,25 @@ impl Mounted {
     pub fn read<'l>(&self, line: &'l [u8]) -> Result<Reading<'l>, LineError> {
         Reading::told(calls::ride(&self.table.bytes, &self.image, line), line)
     }
+
+    /// Rides over two lines in step: what [`read`](Mounted::read) gives of each.
+    ///
+    /// ```
+    /// # use chorvugdan::{LineError, Pattern, Tag};
+    /// let mounted = Pattern::new("a*@0b*")?.build()?.mount();
+    /// let (first, second) = mounted.ride_two(b"aab", b"ba");
+    /// assert_eq!(first?.place(Tag::T0), Some(2));
+    /// assert_eq!(second, Err(LineError::NoMatch));
+    /// # Ok::<(), chorvugdan::Error>(())
+    /// ```
+    pub fn ride_two<'l, 'o>(
+        &self,
+        line: &'l [u8],
+        other: &'o [u8],
+    ) -> (Result<Reading<'l>, LineError>, Result<Reading<'o>, LineError>) {
+        let [first, second] = calls::ride_two(&self.table.bytes, &self.image, line, other);
+        (Reading::told(first, line), Reading::told(second, other))
+    }
 }
 
 /// What a run gave: the line, the answer, and a place for each tag that stored one.

@@ -56,6 +56,20 @@ fn limits() {
     assert_eq!(eight.build(), Err(BuildError::Registers));
 }
 
+/// Two lines in step are read as each is alone.
+#[test]
+fn two_lines() {
+    let long = vec![b'a'; 32768];
+    let lines = [&b"aab"[..], b"", b"ba", b"b", &long, &long[..32767]];
+    let mounted = table("a*@0b*").mount();
+    for line in lines {
+        for other in lines {
+            assert_eq!(mounted.ride_two(line, other), (mounted.read(line), mounted.read(other)));
+        }
+    }
+    assert_eq!(mounted.ride_two(&long, b"aab").0, Err(LineError::Long));
+}
+
 #[test]
 fn tables() {
     let bytes = table("a*@0b*").bytes().to_vec();
