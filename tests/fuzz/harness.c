@@ -95,6 +95,23 @@ static void fuzz_field(const uint8_t *line, size_t len, const int16_t places[8],
     }
 }
 
+/* Two lines in step, the second of them the first's last half: each is told as it is alone, also in the other order. */
+static void fuzz_two(const uint8_t *table, size_t table_len, const uint32_t *image, size_t words, const uint8_t *line,
+                     size_t len) {
+    for (int turned = 0; turned < 2; turned++) {
+        size_t lens[2] = {turned ? len / 2 : len, turned ? len : len / 2};
+        const uint8_t *lines[2] = {line + (len - lens[0]), line + (len - lens[1])};
+        uint8_t codes[2], answers[2], answer;
+        int16_t places[2][8], alone[8];
+        cv_ride_two(table, table_len, image, words, lines[0], lens[0], lines[1], lens[1], codes, answers, places[0],
+                    places[1]);
+        for (int i = 0; i < 2; i++) {
+            CHECK(cv_ride(table, table_len, image, words, lines[i], lens[i], &answer, alone) == codes[i]);
+            CHECK(answer == answers[i] && memcmp(alone, places[i], 16) == 0);
+        }
+    }
+}
+
 /* The image of a table that is taken: the ride is the run. Damaged, any answer is right that keeps to its buffers. */
 static void fuzz_ride(const uint8_t *table, size_t table_len, const uint8_t *line, size_t len, uint8_t code,
                       uint8_t answer, const int16_t places[8]) {
@@ -108,9 +125,11 @@ static void fuzz_ride(const uint8_t *table, size_t table_len, const uint8_t *lin
     if (mounted != CV_OK) CHECK(all_are((const uint8_t *)image, words * 4, FILL));
     uint8_t ridden = cv_ride(table, table_len, image, words, line, len, &got, got_places);
     if (mounted == CV_OK) CHECK(ridden == code && got == answer && memcmp(got_places, places, 16) == 0);
+    fuzz_two(table, table_len, image, words, line, len);
     for (size_t i = 0; i < words; i += 1 + len % 7) image[i] ^= (uint32_t)1 << (i + len) % 32;
     ridden = cv_ride(table, table_len, image, words, line, len, &got, got_places);
     CHECK(ridden == CV_OK || ridden == CV_TABLE_FORM || ridden == CV_LINE_LONG || ridden == CV_NO_MATCH);
+    fuzz_two(table, table_len, image, words, line, len);
 }
 
 static void fuzz_run(const uint8_t *table, size_t table_len, const uint8_t *line, size_t len) {

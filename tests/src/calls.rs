@@ -50,6 +50,20 @@ extern "C" {
         answer: *mut u8,
         places: *mut i16,
     ) -> u8;
+    fn cv_ride_two(
+        table: *const u8,
+        table_len: usize,
+        image: *const u32,
+        image_len: usize,
+        line: *const u8,
+        line_len: usize,
+        other: *const u8,
+        other_len: usize,
+        codes: *mut u8,
+        answers: *mut u8,
+        first: *mut i16,
+        second: *mut i16,
+    );
     fn cv_reading_code(line: *const u8, line_len: usize, places: *const i16, a: u8, b: u8) -> u8;
     fn cv_reading(
         line: *const u8,
@@ -209,6 +223,29 @@ pub fn ride(table: &[u8], image: &[u32], line: &[u8]) -> (u8, u8, [i16; 8]) {
         )
     };
     (code, answer, places)
+}
+
+/// A ride of two lines in step: code, answer and eight places of each.
+pub fn ride_two(table: &[u8], image: &[u32], line: &[u8], other: &[u8]) -> [(u8, u8, [i16; 8]); 2] {
+    let (mut codes, mut answers) = ([FILL; 2], [FILL; 2]);
+    let (mut first, mut second) = ([0x5a5a; 8], [0x5a5a; 8]);
+    unsafe {
+        cv_ride_two(
+            table.as_ptr(),
+            table.len(),
+            image.as_ptr(),
+            image.len(),
+            line.as_ptr(),
+            line.len(),
+            other.as_ptr(),
+            other.len(),
+            codes.as_mut_ptr(),
+            answers.as_mut_ptr(),
+            first.as_mut_ptr(),
+            second.as_mut_ptr(),
+        )
+    }
+    [(codes[0], answers[0], first), (codes[1], answers[1], second)]
 }
 
 /// The program itself: what it writes to standard output for an input.

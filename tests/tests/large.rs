@@ -101,4 +101,14 @@ fn the_last_place() {
         let places = [len as i16, -1, -1, -1, -1, -1, -1, -1];
         assert_eq!(calls::run(&table, &vec![1; len]), (0, 9, places));
     }
+    let (code, image) = calls::mount(&table, 257);
+    assert_eq!(code, 0);
+    let told = |len: usize| match len {
+        32768 => (15, 255, [-1; 8]),
+        len => (0, 9, [len as i16, -1, -1, -1, -1, -1, -1, -1]),
+    };
+    for (one, two) in [(0, 32767), (32767, 1), (32768, 32766), (2, 32768), (32768, 32768)] {
+        let got = calls::ride_two(&table, &image, &vec![1; one], &vec![1; two]);
+        assert_eq!(got, [told(one), told(two)]);
+    }
 }

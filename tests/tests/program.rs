@@ -48,6 +48,23 @@ fn the_longest_line() {
     assert_eq!(end(&input).as_deref(), Some("refused 15"));
 }
 
+/// Records are told each as if alone, however many there are and whichever of them is too long.
+#[test]
+fn records_beside_each_other() {
+    let long = "a".repeat(32768);
+    let records = ["aab", &long, "", "ca", "b"];
+    let told = |all: &[&str]| tagline(format!("a*@0b*\n{}", all.concat()).as_bytes());
+    let head = told(&[]);
+    for from in 0..records.len() {
+        for to in from..=records.len() {
+            let lines: Vec<String> = records[from..to].iter().map(|r| format!("{r}\n")).collect();
+            let lines: Vec<&str> = lines.iter().map(String::as_str).collect();
+            let alone = lines.iter().flat_map(|l| told(&[l])[head.len()..].to_vec());
+            assert_eq!(told(&lines), [head.clone(), alone.collect()].concat(), "records {from} to {to}");
+        }
+    }
+}
+
 /// Document 01's sizes: 63 and 64 bytes, 16 and 17 groups, dots.
 #[test]
 fn sizes() {

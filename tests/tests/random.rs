@@ -95,6 +95,13 @@ fn tables_against_the_judge() {
     });
 }
 
+/// Two lines that ride in step are told as each is alone.
+fn in_step(table: &[u8], image: &[u32], line: &[u8], other: &[u8]) {
+    let alone = [calls::ride(table, image, line), calls::ride(table, image, other)];
+    let got = calls::ride_two(table, image, line, other);
+    assert_eq!(got, alone, "ride {}: {} beside {}", hex(table), hex(line), hex(other));
+}
+
 /// A ride over the image of a taken table is the run; over any other image it is answered.
 #[test]
 fn rides() {
@@ -104,9 +111,12 @@ fn rides() {
         let (code, mut image) = calls::mount(&table, len);
         assert_eq!(code, 0, "mount {}", hex(&table));
         assert_eq!(calls::mount(&table, len - 1), (12, vec![0xa5a5a5a5; len - 1]), "mount {}", hex(&table));
+        let mut beside = Vec::new();
         for _ in 0..8 {
             let line = rng.line(8, make::ALPHABET);
             assert_eq!(calls::ride(&table, &image, &line), calls::run(&table, &line), "run {} {}", hex(&table), hex(&line));
+            in_step(&table, &image, &beside, &line);
+            beside = line;
         }
         let other = make::damaged(rng, &table);
         let judged = calls::load(&other);
@@ -116,9 +126,29 @@ fn rides() {
         for _ in 0..8 {
             let at = rng.below(image.len());
             image[at] = rng.next() as u32;
-            let (code, answer, places) = calls::ride(&other, &image, &rng.line(8, make::ALPHABET));
+            let line = rng.line(8, make::ALPHABET);
+            let (code, answer, places) = calls::ride(&other, &image, &line);
             let told = code == 0 && answer != 255;
             assert!(told || (answer == 255 && places == [-1; 8]), "a refusal tells nothing: {code} {answer}");
+            in_step(&other, &image, &line, &rng.line(8, make::ALPHABET));
+        }
+    });
+}
+
+/// Lines of all lengths beside each other and beside themselves: empty, a few bytes, hundreds, the longest, one byte more.
+#[test]
+fn rides_in_step() {
+    each("rides in step", |rng| {
+        let Some(table) = built(&make::net(rng)) else { return };
+        let (_, image) = calls::mount(&table, 257 * table[4] as usize);
+        let most = if rng.one_in(50) { 32768 } else { 300 };
+        let mut long = rng.line(most, make::ALPHABET);
+        long.resize(most, make::ALPHABET[0]);
+        let lines = [vec![], rng.line(3, make::ALPHABET), rng.line(300, make::ALPHABET), long[1..].to_vec(), long];
+        for line in &lines {
+            for other in &lines {
+                in_step(&table, &image, line, other);
+            }
         }
     });
 }
