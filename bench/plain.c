@@ -656,12 +656,21 @@ uint8_t plain_run(const uint8_t *table, size_t len, const uint8_t *line, size_t 
 }
 
 /*
- * An image word: bits 0 to 6 the next situation, 7 and 8 the kind of list (0 none, 1 SETs only, 2 with a MOVE, 3 a
- * block), from 9 on where the list stands, or the block's numbers; 0 without a list, so that a word that stays without
- * commands is the situation's own number. Behind the words of all situations, one word each where the situation's item
- * stands. A block: SETs of k registers from a on, then MOVEs of the n registers after them from those from f on, which
- * are no higher; one SET alone is its register.
+ * An image word: at % 256 + 256 * next + 32768 * (at / 256) + 2^30 * kind, so that the place of the next situation's
+ * row stands in it as it is. Kind 0 is no command or one SET, `at` its register or 64: what a word without command
+ * stores goes to a cell that nothing reads, and a word that stays so is its row's place and 64. Kind 1 is a block, `at`
+ * its numbers: SETs of k registers from a on, then MOVEs of the n registers after them from those from f on, which are
+ * no higher. Kind 2 is SETs only, 3 a list with a MOVE, `at` where it stands. Behind the words of all situations, one
+ * word each where the situation's item stands.
  */
+enum { IDLE = 64, CELLS = 128, ROW = 0x7f00, LISTED = 1 << 30 };
+
+static uint32_t packed(uint32_t next, uint32_t kind, uint32_t at) {
+    return at % 256 + 256 * next + 32768 * (at / 256) + (kind << 30);
+}
+
+static uint32_t at_of(uint32_t e) { return e % 256 + 256 * (e / 32768 % 32768); }
+
 static uint32_t block_bits(const uint8_t *b, size_t at, size_t end, int *found) {
     uint32_t a = b[at + 1], k = 0, f = 0, n = 0;
     for (; at < end && b[at] == 0x25 && b[at + 1] == a + k; at += 2) k++;
@@ -676,11 +685,11 @@ static uint32_t image_word(const card *c, size_t row, size_t *after) {
     size_t cmds = row + 4;
     *after = list(c, cmds, 1, &wrote, &read);
     uint32_t next = c->bytes[row + 3];
-    if (*after == cmds) return next;
+    if (*after == cmds) return packed(next, 0, IDLE);
     int block;
     uint32_t bits = block_bits(c->bytes, cmds, *after, &block);
-    if (block) return next | 3u << 7 | bits << 9;
-    return next | (read ? 2u : 1u) << 7 | (uint32_t)cmds << 9;
+    if (block) return packed(next, bits < 64 ? 0 : 1, bits);
+    return packed(next, read ? 3 : 2, (uint32_t)cmds);
 }
 
 uint8_t plain_mount(const uint8_t *table, size_t len, uint32_t *image, size_t image_len) {
@@ -700,49 +709,99 @@ uint8_t plain_mount(const uint8_t *table, size_t len, uint32_t *image, size_t im
     return OK;
 }
 
-static void obey_block(size_t w, int16_t place, int16_t bank[64]) {
+static void obey_block(uint32_t w, int16_t place, int16_t bank[CELLS]) {
     size_t a = w % 64, k = w / 64 % 32 + 1, n = w / 2048 % 64, f = w / 131072;
     memmove(bank + a + k, bank + f, n * sizeof *bank);
     for (size_t i = a; i < a + k; i++) bank[i] = place;
 }
 
-static void obey(const uint8_t *table, size_t len, uint32_t e, int16_t place, int16_t bank[64]) {
-    size_t at = e >> 9;
-    switch (e >> 7 & 3) {
+/* A word of kind 1 to 3. */
+static void obey(const uint8_t *table, size_t len, uint32_t e, int16_t place, int16_t bank[CELLS]) {
+    uint32_t at = at_of(e);
+    switch (e >> 30) {
     case 1:
-        for (; at < len && table[at] == 0x25; at += 2) bank[table[at + 1]] = place;
+        obey_block(at, place, bank);
         break;
     case 2:
+        for (; at < len && table[at] == 0x25; at += 2) bank[table[at + 1]] = place;
+        break;
+    default:
         apply_at(table, len, at, place, bank);
-        break;
-    case 3:
-        if (at < 64)
-            bank[at] = place;
-        else
-            obey_block(at, place, bank);
-        break;
     }
+}
+
+/* A line on its way over an image: its next byte, its row, its bank. */
+typedef struct {
+    const uint8_t *line;
+    size_t len, at, row;
+    int16_t bank[CELLS]; /* 64 registers; the others are only written */
+} rider;
+
+static void start(rider *r, const uint8_t *table, size_t len, const uint8_t *line, size_t line_len) {
+    r->line = line;
+    r->len = line_len;
+    r->at = r->row = 0;
+    for (int k = 0; k < 64; k++) r->bank[k] = -1;
+    apply_at(table, len, 5, 0, r->bank);
+}
+
+/* The rest of a line, and what is told of it. */
+static uint8_t rest(rider *r, const uint8_t *table, size_t len, const uint32_t *image, uint8_t *answer,
+                    int16_t places[8]) {
+    const uint8_t *line = r->line;
+    size_t line_len = r->len, row = r->row, limit = 256u * table[4];
+    for (size_t i = r->at; i < line_len;) {
+        uint32_t e = image[row + line[i]];
+        i++;
+        if (e == row + IDLE) continue; /* the next load does not wait for this one */
+        if (e < LISTED)
+            r->bank[e % CELLS] = (int16_t)i;
+        else
+            obey(table, len, e, (int16_t)i, r->bank);
+        row = e & ROW;
+        if (row >= limit) return refuse(TABLE_FORM, answer, places);
+    }
+    return finish(table + image[limit + row / 256], r->bank, answer, places);
 }
 
 uint8_t plain_ride(const uint8_t *table, size_t len, const uint32_t *image, size_t image_len, const uint8_t *line,
                    size_t line_len, uint8_t *answer, int16_t places[8]) {
     (void)image_len;
     if (line_len > 32767) return refuse(LINE_LONG, answer, places);
-    int16_t bank[64];
-    memset(bank, -1, sizeof bank);
-    apply_at(table, len, 5, 0, bank);
-    uint32_t q = 0;
-    const uint32_t *row = image;
-    for (size_t i = 0; i < line_len;) {
-        uint32_t e = row[line[i]];
-        i++;
-        if (e != q) { /* a word that stays: the next load does not wait for this one */
-            if ((e & 127) != q) {
-                q = e & 127;
-                row = image + q * 256;
-            }
-            obey(table, len, e, (int16_t)i, bank);
-        }
+    rider r;
+    start(&r, table, len, line, line_len);
+    return rest(&r, table, len, image, answer, places);
+}
+
+/* Two lines in one loop, so that their loads overlap: as long as both have bytes and words of kind 0. */
+static void in_step(rider *a, rider *b, const uint32_t *image, size_t limit) {
+    const uint8_t *line = a->line, *other = b->line;
+    size_t i = 0, row = 0, other_row = 0, both = a->len < b->len ? a->len : b->len;
+    for (; i < both; i++) {
+        uint32_t e = image[row + line[i]], f = image[other_row + other[i]];
+        if (e == row + IDLE && f == other_row + IDLE) continue;
+        if ((e | f) >= LISTED || (e & ROW) >= limit || (f & ROW) >= limit) break;
+        a->bank[e % CELLS] = b->bank[f % CELLS] = (int16_t)(i + 1);
+        row = e & ROW;
+        other_row = f & ROW;
     }
-    return finish(table + image[table[4] * 256u + q], bank, answer, places);
+    a->at = b->at = i;
+    a->row = row;
+    b->row = other_row;
+}
+
+void plain_ride_two(const uint8_t *table, size_t len, const uint32_t *image, size_t image_len, const uint8_t *line,
+                    size_t line_len, const uint8_t *other, size_t other_len, uint8_t codes[2], uint8_t answers[2],
+                    int16_t first[8], int16_t second[8]) {
+    if (line_len > 32767 || other_len > 32767) {
+        codes[0] = plain_ride(table, len, image, image_len, line, line_len, &answers[0], first);
+        codes[1] = plain_ride(table, len, image, image_len, other, other_len, &answers[1], second);
+        return;
+    }
+    rider a, b;
+    start(&a, table, len, line, line_len);
+    start(&b, table, len, other, other_len);
+    in_step(&a, &b, image, 256u * table[4]);
+    codes[0] = rest(&a, table, len, image, &answers[0], first);
+    codes[1] = rest(&b, table, len, image, &answers[1], second);
 }

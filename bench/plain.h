@@ -23,11 +23,17 @@ uint8_t plain_run(const uint8_t *table, size_t len, const uint8_t *line, size_t 
 
 /*
  * Judged once: an image of one word for each situation and byte. `plain_mount` answers 12 if there are fewer than
- * 256 words a situation; `plain_ride` trusts an image that `plain_mount` wrote for the same table.
+ * 257 words a situation; `plain_ride` trusts an image that `plain_mount` wrote for the same table, but for the test
+ * that a row is one of the table's.
  */
 uint8_t plain_mount(const uint8_t *table, size_t len, uint32_t *image, size_t image_len);
 uint8_t plain_ride(const uint8_t *table, size_t len, const uint32_t *image, size_t image_len, const uint8_t *line,
                    size_t line_len, uint8_t *answer, int16_t places[8]);
+
+/* Two lines in step: each told as `plain_ride` tells it. */
+void plain_ride_two(const uint8_t *table, size_t len, const uint32_t *image, size_t image_len, const uint8_t *line,
+                    size_t line_len, const uint8_t *other, size_t other_len, uint8_t codes[2], uint8_t answers[2],
+                    int16_t first[8], int16_t second[8]);
 
 #ifdef __cplusplus
 }
