@@ -161,6 +161,11 @@ enum { NO = 0, YES = 1, GAVE_UP = -1 };
 
 static const uint8_t *bytes(const string &s) { return reinterpret_cast<const uint8_t *>(s.data()); }
 
+struct Found {
+    int match;
+    int32_t places[8];
+};
+
 struct Engine {
     string name, note;
     explicit Engine(string n) : name(std::move(n)) {}
@@ -168,9 +173,27 @@ struct Engine {
     virtual bool build(const Case &c) = 0;
     virtual void drop() {}
     virtual int match(const string &line, int32_t places[8]) = 0;
+    virtual bool pairs() { return false; } // takes two lines at once
+    virtual void match_two(const string &, const string &, Found[2]) {}
     virtual size_t extra() { return 0; } // bytes held outside the heap
     virtual bool builds() { return true; }
 };
+
+// What an engine finds of each line, in order; one that takes pairs has a last odd line alone.
+template <class F> static void match_all(Engine &e, const vector<string> &lines, F told) {
+    Found found[2];
+    size_t i = 0;
+    if (e.pairs())
+        for (; i + 1 < lines.size(); i += 2) {
+            e.match_two(lines[i], lines[i + 1], found);
+            told(lines[i], found[0]);
+            told(lines[i + 1], found[1]);
+        }
+    for (; i < lines.size(); i++) {
+        found[0].match = e.match(lines[i], found[0].places);
+        told(lines[i], found[0]);
+    }
+}
 
 struct Card : Engine { // what ours and the plain C versions share
     vector<uint8_t> net = vector<uint8_t>(CV_NET_MAX), work = vector<uint8_t>(CV_WORK_MIN),
@@ -212,10 +235,17 @@ struct PlainRun : Card {
 struct Image : Card {
     vector<uint32_t> image = vector<uint32_t>(CV_IMAGE_MAX);
     using Card::Card;
+    template <decltype(cv_ride_two) *ride> void two(const string &line, const string &other, Found found[2]) {
+        uint8_t codes[2], answers[2];
+        int16_t p[2][8];
+        ride(table.data(), table_len, image.data(), image.size(), bytes(line), line.size(), bytes(other), other.size(),
+             codes, answers, p[0], p[1]);
+        for (int i = 0; i < 2; i++) found[i].match = told(codes[i], p[i], found[i].places);
+    }
 };
 
 struct PlainRide : Image {
-    PlainRide() : Image("plain C ride") { note = "loaded once"; }
+    explicit PlainRide(string n = "plain C ride") : Image(std::move(n)) { note = "loaded once"; }
     bool build(const Case &c) override {
         return Card::build(c) && plain_mount(table.data(), table_len, image.data(), image.size()) == CV_OK;
     }
@@ -229,8 +259,16 @@ struct PlainRide : Image {
     bool builds() override { return false; }
 };
 
+struct PlainRideTwo : PlainRide {
+    PlainRideTwo() : PlainRide("plain C ride two") { note = "two lines in step, loaded once"; }
+    bool pairs() override { return true; }
+    void match_two(const string &line, const string &other, Found found[2]) override {
+        two<plain_ride_two>(line, other, found);
+    }
+};
+
 struct Ride : Image {
-    Ride() : Image("cv_ride") { note = "loaded once"; }
+    explicit Ride(string n = "cv_ride") : Image(std::move(n)) { note = "loaded once"; }
     bool build(const Case &c) override {
         return Card::build(c) && cv_mount(table.data(), table_len, image.data(), image.size()) == CV_OK;
     }
@@ -241,6 +279,15 @@ struct Ride : Image {
                     p, places);
     }
     size_t extra() override { return table_len + situations * CV_IMAGE_WORDS * 4; }
+};
+
+struct RideTwo : Ride {
+    RideTwo() : Ride("cv_ride_two") { note = "two lines in step, loaded once"; }
+    bool pairs() override { return true; }
+    void match_two(const string &line, const string &other, Found found[2]) override {
+        two<cv_ride_two>(line, other, found);
+    }
+    bool builds() override { return false; }
 };
 
 // Places of the case's tags out of a peer's groups.
@@ -421,9 +468,11 @@ struct RustRegex : Engine {
 static vector<std::unique_ptr<Engine>> engines() {
     vector<std::unique_ptr<Engine>> all;
     all.emplace_back(new Ride);
+    all.emplace_back(new RideTwo);
     all.emplace_back(new Run);
     all.emplace_back(new PlainRun);
     all.emplace_back(new PlainRide);
+    all.emplace_back(new PlainRideTwo);
 #ifdef HAVE_RE2C
     all.emplace_back(new Re2c);
 #endif
@@ -500,15 +549,19 @@ struct Sheet {
 };
 
 static string differs(Engine &e, const Case &c, Engine &ours) {
-    for (const string &line : c.lines) {
-        int32_t mine[8], theirs[8];
-        int m = ours.match(line, mine), t = e.match(line, theirs);
-        if (t == GAVE_UP) return "gave up";
-        bool same = m == t;
-        for (int i = 0; i < 8 && m == YES; i++) same = same && mine[i] == theirs[i];
-        if (!same) return "another answer";
-    }
-    return "";
+    string why;
+    match_all(e, c.lines, [&](const string &line, const Found &theirs) {
+        if (!why.empty()) return;
+        int32_t mine[8];
+        int m = ours.match(line, mine);
+        bool same = m == theirs.match;
+        for (int i = 0; i < 8 && m == YES; i++) same = same && mine[i] == theirs.places[i];
+        if (theirs.match == GAVE_UP)
+            why = "gave up";
+        else if (!same)
+            why = "another answer";
+    });
+    return why;
 }
 
 static Sheet bench_case(const Case &c, int rounds) {
@@ -538,8 +591,7 @@ static Sheet bench_case(const Case &c, int rounds) {
         if (row.why.empty()) {
             Job j;
             j.once = [&e, &c] {
-                int32_t places[8];
-                for (const string &line : c.lines) sink = e.match(line, places) + places[0];
+                match_all(e, c.lines, [](const string &, const Found &f) { sink = f.match + f.places[0]; });
             };
             jobs.push_back(j);
             at.push_back(i);
@@ -571,9 +623,9 @@ static Sheet bench_case(const Case &c, int rounds) {
 
 static void print(const Sheet &s) {
     double ours = s.rows[0].ns;
-    printf("\n%s\n  %-14s %9s %9s %12s %10s\n", s.name.c_str(), "engine", "ns/byte", "to ours", "build us", "bytes");
+    printf("\n%s\n  %-16s %9s %9s %12s %10s\n", s.name.c_str(), "engine", "ns/byte", "to ours", "build us", "bytes");
     for (const Row &r : s.rows) {
-        printf("  %-14s ", r.engine.c_str());
+        printf("  %-16s ", r.engine.c_str());
         if (r.why.empty())
             printf("%9.2f %8.2fx", r.ns, r.ns / ours);
         else
@@ -591,57 +643,88 @@ static void print(const Sheet &s) {
 
 // ---- ours against the same in plain C, call by call ----
 
-static void print_pairs(const vector<Case> &all, int rounds) {
-    const char *calls[] = {"pattern", "build", "load", "mount", "run", "ride"};
-    printf("\nours and plain C, microseconds a call (run and ride: the case's first line)\n  %-20s", "case");
-    for (const char *call : calls) printf(" %9s %8s %6s", call, "plain", "ratio");
-    printf("\n");
-    for (const Case &c : all) {
-        Run r;
+// The calls of one case, ours and plain C's by turns: on its first two lines, or on its only one twice.
+struct Calls {
+    const string &pattern, &line, &other;
+    Run r;
+    vector<uint8_t> net = vector<uint8_t>(CV_NET_MAX), out = vector<uint8_t>(CV_TABLE_ROOM);
+    vector<uint32_t> ours = vector<uint32_t>(CV_IMAGE_MAX), plain = vector<uint32_t>(CV_IMAGE_MAX);
+    size_t place, len, situations, registers;
+    uint8_t answer, codes[2], answers[2];
+    int16_t p[8], q[8];
+    vector<Job> jobs;
+
+    explicit Calls(const Case &c) : pattern(c.ours), line(c.lines[0]), other(c.lines[c.lines.size() > 1]) {
         if (!r.build(c)) exit(1);
-        vector<uint8_t> net(CV_NET_MAX), out(CV_TABLE_ROOM);
-        size_t place, net_len, len, situations, registers;
-        if (plain_pattern(bytes(c.ours), c.ours.size(), net.data(), net.size(), &place, &net_len) != CV_OK ||
-            net_len != r.net_len || memcmp(net.data(), r.net.data(), net_len) != 0 ||
-            plain_build(net.data(), net_len, out.data(), out.size(), &len, &situations, &registers) != CV_OK ||
-            len != r.table_len || memcmp(out.data(), r.table.data(), len) != 0) {
+        if (!makers_agree()) {
             fprintf(stderr, "bench: the plain makers differ on '%s'\n", c.name.c_str());
             exit(1);
         }
-        const string &line = c.lines[0];
-        uint8_t answer;
-        int16_t p[8];
-        vector<uint32_t> ours(CV_IMAGE_MAX), plain(CV_IMAGE_MAX);
-        vector<Job> jobs(12);
-        jobs[0].once = [&] { sink = cv_pattern(bytes(c.ours), c.ours.size(), net.data(), net.size(), &place, &len); };
-        jobs[1].once = [&] {
-            sink = plain_pattern(bytes(c.ours), c.ours.size(), net.data(), net.size(), &place, &len);
-        };
-        jobs[2].once = [&] {
+        add_makers();
+        add_runners();
+    }
+    bool makers_agree() {
+        return plain_pattern(bytes(pattern), pattern.size(), net.data(), net.size(), &place, &len) == CV_OK &&
+               len == r.net_len && memcmp(net.data(), r.net.data(), len) == 0 &&
+               plain_build(net.data(), len, out.data(), out.size(), &len, &situations, &registers) == CV_OK &&
+               len == r.table_len && memcmp(out.data(), r.table.data(), len) == 0;
+    }
+    void add(std::function<void()> once) {
+        jobs.emplace_back();
+        jobs.back().once = std::move(once);
+    }
+    void add_makers() {
+        add([&] { sink = cv_pattern(bytes(pattern), pattern.size(), net.data(), net.size(), &place, &len); });
+        add([&] { sink = plain_pattern(bytes(pattern), pattern.size(), net.data(), net.size(), &place, &len); });
+        add([&] {
             sink = cv_build(r.net.data(), r.net_len, r.work.data(), r.work.size(), out.data(), out.size(), &len,
                             &situations, &registers);
-        };
-        jobs[3].once = [&] {
+        });
+        add([&] {
             sink = plain_build(r.net.data(), r.net_len, out.data(), out.size(), &len, &situations, &registers);
-        };
-        jobs[4].once = [&] { sink = cv_load(r.table.data(), r.table_len); };
-        jobs[5].once = [&] { sink = plain_load(r.table.data(), r.table_len); };
-        jobs[6].once = [&] { sink = cv_mount(r.table.data(), r.table_len, ours.data(), ours.size()); };
-        jobs[7].once = [&] { sink = plain_mount(r.table.data(), r.table_len, plain.data(), plain.size()); };
-        jobs[8].once = [&] { sink = cv_run(r.table.data(), r.table_len, bytes(line), line.size(), &answer, p); };
-        jobs[9].once = [&] { sink = plain_run(r.table.data(), r.table_len, bytes(line), line.size(), &answer, p); };
-        jobs[10].once = [&] {
+        });
+        add([&] { sink = cv_load(r.table.data(), r.table_len); });
+        add([&] { sink = plain_load(r.table.data(), r.table_len); });
+        add([&] { sink = cv_mount(r.table.data(), r.table_len, ours.data(), ours.size()); });
+        add([&] { sink = plain_mount(r.table.data(), r.table_len, plain.data(), plain.size()); });
+    }
+    void add_runners() {
+        add([&] { sink = cv_run(r.table.data(), r.table_len, bytes(line), line.size(), &answer, p); });
+        add([&] { sink = plain_run(r.table.data(), r.table_len, bytes(line), line.size(), &answer, p); });
+        add([&] {
             sink = cv_ride(r.table.data(), r.table_len, ours.data(), ours.size(), bytes(line), line.size(), &answer, p);
-        };
-        jobs[11].once = [&] {
+        });
+        add([&] {
             sink = plain_ride(r.table.data(), r.table_len, plain.data(), plain.size(), bytes(line), line.size(),
                               &answer, p);
-        };
-        measure(jobs, rounds);
+        });
+        add([&] {
+            cv_ride_two(r.table.data(), r.table_len, ours.data(), ours.size(), bytes(line), line.size(), bytes(other),
+                        other.size(), codes, answers, p, q);
+            sink = codes[0] + codes[1];
+        });
+        add([&] {
+            plain_ride_two(r.table.data(), r.table_len, plain.data(), plain.size(), bytes(line), line.size(),
+                           bytes(other), other.size(), codes, answers, p, q);
+            sink = codes[0] + codes[1];
+        });
+    }
+};
+
+static void print_pairs(const vector<Case> &all, int rounds) {
+    const char *names[] = {"pattern", "build", "load", "mount", "run", "ride", "ride two"};
+    printf("\nours and plain C, microseconds a call (run and ride: the case's first line; ride two: its first two)\n");
+    printf("  %-20s", "case");
+    for (const char *name : names) printf(" %9s %8s %6s", name, "plain", "ratio");
+    printf("\n");
+    for (const Case &c : all) {
+        Calls calls(c);
+        measure(calls.jobs, rounds);
         printf("  %-20s", c.name.c_str());
-        for (size_t i = 0; i < jobs.size(); i += 2)
-            printf(" %9.2f %8.2f %5.1fx", jobs[i].least / 1000, jobs[i + 1].least / 1000,
-                   jobs[i].least / jobs[i + 1].least);
+        for (size_t i = 0; i < calls.jobs.size(); i += 2) {
+            double ours = calls.jobs[i].least, plain = calls.jobs[i + 1].least;
+            printf(" %9.2f %8.2f %5.1fx", ours / 1000, plain / 1000, ours / plain);
+        }
         printf("\n");
     }
 }
