@@ -1,13 +1,13 @@
 -- A line's way over an image, byte by byte: what is left to tell before a byte is left to tell after it. Assumes nothing.
-use Prim.Native.Nat.{ℕ, _+_, _*_, _/_, _%_, _<_, _≤_}
+use Prim.Native.Nat.{ℕ, _+_, _-_, _*_, _/_, _%_, _<_, _≤_}
 use native.Mathlib.Omega.{arith}
 use native.Mathlib.Numerals.{add-one}
 use mathlib.Core.Path.{_≡_, refl, sym, ap, ap₂, _∙_}
 use mathlib.Core.Bool.{Bool, true, false}
 use mathlib.Core.List.{List, []}
 use mathlib.Core.Logic.{_⊎_, inl, inr}
-use lib.ListN.{length, getD, set, drop, drop-of-length-le}
-use lib.Seq.{drop-cons}
+use lib.ListN.{length, getD, set, take, drop, length-take, length-drop, drop-of-length-le}
+use lib.Seq.{getD-take, getD-drop, drop-cons}
 use lib.IntN.{pos}
 use lib.Dec.{leb, eqb}
 use borrow.Author.Tests.{le-leb, lt-leb, eq-eqb, ne-eqb}
@@ -43,6 +43,20 @@ module _ (s : List ℕ) (e : ℕ) where
 module _ {image : List ℕ} {limit row : ℕ} (st : Standing image limit row) where
   pub in-image : (b : ℕ) → b < 256 → row + b < length image
   in-image b h = omega (arith, st .room, st .rows, st .begins, st .inside)
+
+  -- the same by a byte's column: what is left of the image from the byte's entry in the first row on
+  module _ (b : ℕ) (h : b < 256) where
+    abbrev column : List ℕ
+    column = take (length image - b) (drop b image)
+
+    pub in-column : row < length column
+    in-column = let i = in-image b h in simp (length-take, length-drop) (omega arith)
+
+    pub column-at : getD column row 0 ≡ getD image (row + b) 0
+    column-at =
+        let i = in-image b h in
+        getD-take (length image - b) (drop b image) row 0 (omega arith) ∙ getD-drop b image row 0
+        ∙ ap (λ (n : ℕ). getD image n 0) (let n : b + row ≡ row + b = omega arith in n)
 
   -- the next row, where it changed and where it was kept
   abbrev pub Went : (e there : ℕ) → Type 0

@@ -98,7 +98,7 @@ fn hop(e: usize, limit: usize, row: usize, place: usize, bank: &mut [i16; 128]) 
 }
 
 // Two lines in step from their beginning on, until one of them ends or has an entry that does not glide. Both entries
-// are loaded before either is taken, so that the loads overlap.
+// are loaded before either is taken, so that the loads overlap; a byte's column is found before its row is known.
 pub fn glide_two(
     image: &[u32],
     limit: usize,
@@ -116,9 +116,11 @@ pub fn glide_two(
     let mut i: usize = 0;
     while i < until {
         let b = ground::wide(line[i]);
-        let e = word(image[row + b]);
+        let column = &image[b..];
+        let e = word(column[row]);
         let c = ground::wide(other[i]);
-        let f = word(image[row2 + c]);
+        let column2 = &image[c..];
+        let f = word(column2[row2]);
         let next = hop(e, limit, row, i + 1, bank);
         if next == ASTRAY {
             return Reaches {

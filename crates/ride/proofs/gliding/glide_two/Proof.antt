@@ -1,9 +1,10 @@
 -- `ride::gliding::glide_two` meets its contract: the invariant is `Reached` for each line. Assumes nothing.
 use Prim.Native.Nat.{_+_, _-_}
+use mathlib.Core.Path.{_∙_}
 use native.Mathlib.Omega.{arith}
 use borrow.Author.Needs.{needs}
 use Rattle.ride.specs.Need.{Reached}
-use Rattle.ride.proofs.Riding.{in-image, reached-none, reached-hop, left-alone}
+use Rattle.ride.proofs.Riding.{in-image, in-column, column-at, reached-none, reached-hop, left-alone}
 use Rattle.ride.proofs.gliding.glide_two.Statement.{statement}
 use Rattle.ride.proofs.gliding.glide_two.Tie as tie
 
@@ -25,67 +26,85 @@ shared-slice-read-wide c = omega (arith, c .before .before .before .least .ensur
 wide-requires : tie.Need-wide-requires Inv-loop μ-loop
 wide-requires c κs = search needs
 
-add-word : tie.Need-add-word Inv-loop μ-loop
-add-word c = omega (arith, c .before .before .before .loop .inv .0 .standing .small, c .wide .ensures, c .before .shared-slice-known4 .given (c .before .before .before .loop .i))
+mul-column : tie.Need-mul-column Inv-loop μ-loop
+mul-column c = omega (arith, c .wide .ensures, c .before .shared-slice-known4 .given (c .before .before .before .loop .i))
+
+sub-column : tie.Need-sub-column Inv-loop μ-loop
+sub-column c = let h = in-image (c .before .before .before .loop .inv .0 .standing) (c .wide .result) (omega (arith, c .wide .ensures, c .before .shared-slice-known4 .given (c .before .before .before .loop .i))) in omega arith
+
+part-column-start : tie.Need-part-column-start Inv-loop μ-loop
+part-column-start c = sub-column c
+
+part-column-end : tie.Need-part-column-end Inv-loop μ-loop
+part-column-end c = search needs
 
 mul-word : tie.Need-mul-word Inv-loop μ-loop
-mul-word c = omega (arith, c .before .before .before .loop .inv .0 .standing .small, c .wide .ensures, c .before .shared-slice-known4 .given (c .before .before .before .loop .i))
+mul-word c = omega (arith, c .before .before .before .before .loop .inv .0 .standing .small)
 
 shared-slice-read-word : tie.Need-shared-slice-read-word Inv-loop μ-loop
-shared-slice-read-word c = in-image (c .before .before .before .before .loop .inv .0 .standing) (c .before .wide .result) (omega (arith, c .before .wide .ensures, c .before .before .shared-slice-known4 .given (c .before .before .before .before .loop .i)))
+shared-slice-read-word c = in-column (c .before .before .before .before .before .loop .inv .0 .standing) (c .before .before .wide .result) (omega (arith, c .before .before .wide .ensures, c .before .before .before .shared-slice-known4 .given (c .before .before .before .before .before .loop .i)))
 
 word-requires : tie.Need-word-requires Inv-loop μ-loop
 word-requires c κs = search needs
 
 shared-slice-read-wide-2 : tie.Need-shared-slice-read-wide-2 Inv-loop μ-loop
-shared-slice-read-wide-2 c = omega (arith, c .before .before .before .before .before .before .before .least .ensures, c .before .before .before .before .before .loop-test .taken)
+shared-slice-read-wide-2 c = omega (arith, c .before .before .before .before .before .before .before .before .least .ensures, c .before .before .before .before .before .before .loop-test .taken)
 
 wide-requires-2 : tie.Need-wide-requires-2 Inv-loop μ-loop
 wide-requires-2 c κs = search needs
 
-add-word-2 : tie.Need-add-word-2 Inv-loop μ-loop
-add-word-2 c = omega (arith, c .before .before .before .before .before .before .before .loop .inv .1 .standing .small, c .wide2 .ensures, c .before .shared-slice-known6 .given (c .before .before .before .before .before .before .before .loop .i))
+mul-column2 : tie.Need-mul-column2 Inv-loop μ-loop
+mul-column2 c = omega (arith, c .wide2 .ensures, c .before .shared-slice-known6 .given (c .before .before .before .before .before .before .before .before .loop .i))
+
+sub-column2 : tie.Need-sub-column2 Inv-loop μ-loop
+sub-column2 c = let h = in-image (c .before .before .before .before .before .before .before .before .loop .inv .1 .standing) (c .wide2 .result) (omega (arith, c .wide2 .ensures, c .before .shared-slice-known6 .given (c .before .before .before .before .before .before .before .before .loop .i))) in omega arith
+
+part-column2-start : tie.Need-part-column2-start Inv-loop μ-loop
+part-column2-start c = sub-column2 c
+
+part-column2-end : tie.Need-part-column2-end Inv-loop μ-loop
+part-column2-end c = search needs
 
 mul-word-2 : tie.Need-mul-word-2 Inv-loop μ-loop
-mul-word-2 c = omega (arith, c .before .before .before .before .before .before .before .loop .inv .1 .standing .small, c .wide2 .ensures, c .before .shared-slice-known6 .given (c .before .before .before .before .before .before .before .loop .i))
+mul-word-2 c = omega (arith, c .before .before .before .before .before .before .before .before .before .loop .inv .1 .standing .small)
 
 shared-slice-read-word-2 : tie.Need-shared-slice-read-word-2 Inv-loop μ-loop
-shared-slice-read-word-2 c = in-image (c .before .before .before .before .before .before .before .before .loop .inv .1 .standing) (c .before .wide2 .result) (omega (arith, c .before .wide2 .ensures, c .before .before .shared-slice-known6 .given (c .before .before .before .before .before .before .before .before .loop .i)))
+shared-slice-read-word-2 c = in-column (c .before .before .before .before .before .before .before .before .before .before .loop .inv .1 .standing) (c .before .before .wide2 .result) (omega (arith, c .before .before .wide2 .ensures, c .before .before .before .shared-slice-known6 .given (c .before .before .before .before .before .before .before .before .before .before .loop .i)))
 
 word-requires-2 : tie.Need-word-requires-2 Inv-loop μ-loop
 word-requires-2 c κs = search needs
 
 add-hop : tie.Need-add-hop Inv-loop μ-loop
-add-hop c = omega (arith, c .before .before .before .before .before .before .before .before .before .before .least .ensures, c .before .before .before .before .before .before .before .before .loop-test .taken, c .before .before .before .before .before .before .before .before .before .before .before .before .before .before .pre .0 .short)
+add-hop c = omega (arith, c .before .before .before .before .before .before .before .before .before .before .before .before .least .ensures, c .before .before .before .before .before .before .before .before .before .before .loop-test .taken, c .before .before .before .before .before .before .before .before .before .before .before .before .before .before .before .before .pre .0 .short)
 
 hop-requires : tie.Need-hop-requires Inv-loop μ-loop
-hop-requires c κs = (c .before .before .before .before .before .before .before .before .before .before .loop .inv .0 .standing .small, omega (arith, c .before .before .before .before .before .before .before .before .before .before .before .least .ensures, c .before .before .before .before .before .before .before .before .before .loop-test .taken, c .before .before .before .before .before .before .before .before .before .before .before .before .before .before .before .pre .0 .short))
+hop-requires c κs = (c .before .before .before .before .before .before .before .before .before .before .before .before .loop .inv .0 .standing .small, omega (arith, c .before .before .before .before .before .before .before .before .before .before .before .before .before .least .ensures, c .before .before .before .before .before .before .before .before .before .before .before .loop-test .taken, c .before .before .before .before .before .before .before .before .before .before .before .before .before .before .before .before .before .pre .0 .short))
 
 returns : tie.Need-returns Inv-loop μ-loop
-returns c = (rw (left-alone (c .before .before .before .before .before .before .before .before .before .before .before .before .loop .inv .0 .standing .small) (c .before .hop .ensures) (c .if1 .taken)) (c .before .before .before .before .before .before .before .before .before .before .before .before .loop .inv .0), c .before .before .before .before .before .before .before .before .before .before .before .before .loop .inv .1)
+returns c = (rw (left-alone (c .before .before .before .before .before .before .before .before .before .before .before .before .before .before .loop .inv .0 .standing .small) (c .before .hop .ensures) (c .if1 .taken)) (c .before .before .before .before .before .before .before .before .before .before .before .before .before .before .loop .inv .0), c .before .before .before .before .before .before .before .before .before .before .before .before .before .before .loop .inv .1)
 
 add-hop-2 : tie.Need-add-hop-2 Inv-loop μ-loop
-add-hop-2 c = omega (arith, c .before .before .before .before .before .before .before .before .before .before .before .before .before .least .ensures, c .before .before .before .before .before .before .before .before .before .before .before .loop-test .taken, c .before .before .before .before .before .before .before .before .before .before .before .before .before .before .before .before .before .pre .0 .short)
+add-hop-2 c = omega (arith, c .before .before .before .before .before .before .before .before .before .before .before .before .before .before .before .least .ensures, c .before .before .before .before .before .before .before .before .before .before .before .before .before .loop-test .taken, c .before .before .before .before .before .before .before .before .before .before .before .before .before .before .before .before .before .before .before .pre .0 .short)
 
 hop-requires-2 : tie.Need-hop-requires-2 Inv-loop μ-loop
-hop-requires-2 c κs = (c .before .before .before .before .before .before .before .before .before .before .before .before .before .loop .inv .1 .standing .small, omega (arith, c .before .before .before .before .before .before .before .before .before .before .before .before .before .before .least .ensures, c .before .before .before .before .before .before .before .before .before .before .before .before .loop-test .taken, c .before .before .before .before .before .before .before .before .before .before .before .before .before .before .before .before .before .before .pre .0 .short))
+hop-requires-2 c κs = (c .before .before .before .before .before .before .before .before .before .before .before .before .before .before .before .loop .inv .1 .standing .small, omega (arith, c .before .before .before .before .before .before .before .before .before .before .before .before .before .before .before .before .least .ensures, c .before .before .before .before .before .before .before .before .before .before .before .before .before .before .loop-test .taken, c .before .before .before .before .before .before .before .before .before .before .before .before .before .before .before .before .before .before .before .before .pre .0 .short))
 
-add-t30 : tie.Need-add-t30 Inv-loop μ-loop
-add-t30 c = omega (arith, c .before .before .before .before .before .before .before .before .before .before .before .before .before .before .before .before .least .ensures, c .before .before .before .before .before .before .before .before .before .before .before .before .before .before .loop-test .taken, c .before .before .before .before .before .before .before .before .before .before .before .before .before .before .before .before .before .before .before .before .pre .0 .short)
+add-t36 : tie.Need-add-t36 Inv-loop μ-loop
+add-t36 c = omega (arith, c .before .before .before .before .before .before .before .before .before .before .before .before .before .before .before .before .before .before .least .ensures, c .before .before .before .before .before .before .before .before .before .before .before .before .before .before .before .before .loop-test .taken, c .before .before .before .before .before .before .before .before .before .before .before .before .before .before .before .before .before .before .before .before .before .before .pre .0 .short)
 
 returns-2 : tie.Need-returns-2 Inv-loop μ-loop
-returns-2 c = (reached-hop (c .before .before .before .before .before .before .before .before .before .before .before .before .before .before .before .loop .inv .0) (c .before .before .before .before .before .before .before .before .before .before .word .result) (omega (arith, c .before .before .before .before .before .before .before .before .before .before .before .before .before .before .before .before .least .ensures, c .before .before .before .before .before .before .before .before .before .before .before .before .before .before .loop-test .taken)) (c .before .before .before .before .before .before .before .before .before .before .before .before .wide .ensures) (c .before .before .before .before .before .before .before .before .before .before .word .ensures) (c .before .before .before .before .hop .ensures) (c .before .before .before .if1 .left), rw (left-alone (c .before .before .before .before .before .before .before .before .before .before .before .before .before .before .before .loop .inv .1 .standing .small) (c .before .hop2 .ensures) (c .if2 .taken)) (c .before .before .before .before .before .before .before .before .before .before .before .before .before .before .before .loop .inv .1))
+returns-2 c = (reached-hop (c .before .before .before .before .before .before .before .before .before .before .before .before .before .before .before .before .before .loop .inv .0) (c .before .before .before .before .before .before .before .before .before .before .before .word .result) (omega (arith, c .before .before .before .before .before .before .before .before .before .before .before .before .before .before .before .before .before .before .least .ensures, c .before .before .before .before .before .before .before .before .before .before .before .before .before .before .before .before .loop-test .taken)) (c .before .before .before .before .before .before .before .before .before .before .before .before .before .before .wide .ensures) (c .before .before .before .before .before .before .before .before .before .before .before .word .ensures ∙ column-at (c .before .before .before .before .before .before .before .before .before .before .before .before .before .before .before .before .before .loop .inv .0 .standing) (c .before .before .before .before .before .before .before .before .before .before .before .before .before .before .wide .result) (omega (arith, c .before .before .before .before .before .before .before .before .before .before .before .before .before .before .wide .ensures, c .before .before .before .before .before .before .before .before .before .before .before .before .before .before .before .shared-slice-known4 .given (c .before .before .before .before .before .before .before .before .before .before .before .before .before .before .before .before .before .loop .i)))) (c .before .before .before .before .hop .ensures) (c .before .before .before .if1 .left), rw (left-alone (c .before .before .before .before .before .before .before .before .before .before .before .before .before .before .before .before .before .loop .inv .1 .standing .small) (c .before .hop2 .ensures) (c .if2 .taken)) (c .before .before .before .before .before .before .before .before .before .before .before .before .before .before .before .before .before .loop .inv .1))
 
 add-i : tie.Need-add-i Inv-loop μ-loop
-add-i c = omega (arith, c .before .before .before .before .before .before .before .before .before .before .before .before .before .before .before .before .least .ensures, c .before .before .before .before .before .before .before .before .before .before .before .before .before .before .loop-test .taken, c .before .before .before .before .before .before .before .before .before .before .before .before .before .before .before .before .before .before .before .before .pre .0 .short)
+add-i c = omega (arith, c .before .before .before .before .before .before .before .before .before .before .before .before .before .before .before .before .before .before .least .ensures, c .before .before .before .before .before .before .before .before .before .before .before .before .before .before .before .before .loop-test .taken, c .before .before .before .before .before .before .before .before .before .before .before .before .before .before .before .before .before .before .before .before .before .before .pre .0 .short)
 
 loop-less : tie.Need-loop-less Inv-loop μ-loop
 loop-less c = omega arith
 
 loop-again : tie.Need-loop-again Inv-loop μ-loop
 loop-again c = (
-  reached-hop (c .before .before .before .before .before .before .before .before .before .before .before .before .before .before .before .loop .inv .0) (c .before .before .before .before .before .before .before .before .before .before .word .result) (omega (arith, c .before .before .before .before .before .before .before .before .before .before .before .before .before .before .before .before .least .ensures, c .before .before .before .before .before .before .before .before .before .before .before .before .before .before .loop-test .taken)) (c .before .before .before .before .before .before .before .before .before .before .before .before .wide .ensures) (c .before .before .before .before .before .before .before .before .before .before .word .ensures) (c .before .before .before .before .hop .ensures) (c .before .before .before .if1 .left),
-  reached-hop (c .before .before .before .before .before .before .before .before .before .before .before .before .before .before .before .loop .inv .1) (c .before .before .before .before .before .before .word2 .result) (omega (arith, c .before .before .before .before .before .before .before .before .before .before .before .before .before .before .before .before .least .ensures, c .before .before .before .before .before .before .before .before .before .before .before .before .before .before .loop-test .taken)) (c .before .before .before .before .before .before .before .before .wide2 .ensures) (c .before .before .before .before .before .before .word2 .ensures) (c .before .hop2 .ensures) (c .if2 .left),
+  reached-hop (c .before .before .before .before .before .before .before .before .before .before .before .before .before .before .before .before .before .loop .inv .0) (c .before .before .before .before .before .before .before .before .before .before .before .word .result) (omega (arith, c .before .before .before .before .before .before .before .before .before .before .before .before .before .before .before .before .before .before .least .ensures, c .before .before .before .before .before .before .before .before .before .before .before .before .before .before .before .before .loop-test .taken)) (c .before .before .before .before .before .before .before .before .before .before .before .before .before .before .wide .ensures) (c .before .before .before .before .before .before .before .before .before .before .before .word .ensures ∙ column-at (c .before .before .before .before .before .before .before .before .before .before .before .before .before .before .before .before .before .loop .inv .0 .standing) (c .before .before .before .before .before .before .before .before .before .before .before .before .before .before .wide .result) (omega (arith, c .before .before .before .before .before .before .before .before .before .before .before .before .before .before .wide .ensures, c .before .before .before .before .before .before .before .before .before .before .before .before .before .before .before .shared-slice-known4 .given (c .before .before .before .before .before .before .before .before .before .before .before .before .before .before .before .before .before .loop .i)))) (c .before .before .before .before .hop .ensures) (c .before .before .before .if1 .left),
+  reached-hop (c .before .before .before .before .before .before .before .before .before .before .before .before .before .before .before .before .before .loop .inv .1) (c .before .before .before .before .before .before .word2 .result) (omega (arith, c .before .before .before .before .before .before .before .before .before .before .before .before .before .before .before .before .before .before .least .ensures, c .before .before .before .before .before .before .before .before .before .before .before .before .before .before .before .before .loop-test .taken)) (c .before .before .before .before .before .before .before .before .before .wide2 .ensures) (c .before .before .before .before .before .before .word2 .ensures ∙ column-at (c .before .before .before .before .before .before .before .before .before .before .before .before .before .before .before .before .before .loop .inv .1 .standing) (c .before .before .before .before .before .before .before .before .before .wide2 .result) (omega (arith, c .before .before .before .before .before .before .before .before .before .wide2 .ensures, c .before .before .before .before .before .before .before .before .before .before .shared-slice-known6 .given (c .before .before .before .before .before .before .before .before .before .before .before .before .before .before .before .before .before .loop .i)))) (c .before .hop2 .ensures) (c .if2 .left),
 )
 
 returns-3 : tie.Need-returns-3 Inv-loop μ-loop
@@ -101,13 +120,19 @@ glide-two-spec =
     loop-holds
     shared-slice-read-wide
     wide-requires
-    add-word
+    mul-column
+    sub-column
+    part-column-start
+    part-column-end
     mul-word
     shared-slice-read-word
     word-requires
     shared-slice-read-wide-2
     wide-requires-2
-    add-word-2
+    mul-column2
+    sub-column2
+    part-column2-start
+    part-column2-end
     mul-word-2
     shared-slice-read-word-2
     word-requires-2
@@ -116,7 +141,7 @@ glide-two-spec =
     returns
     add-hop-2
     hop-requires-2
-    add-t30
+    add-t36
     returns-2
     add-i
     loop-less
