@@ -7,7 +7,7 @@ ghost use Rattle.net.specs.Count.{byteCount};
 ghost use Rattle.reading.specs.Reading.{cutBy};
 ghost use Rattle.card.specs.Judged.{Judged};
 ghost use Rattle.run.specs.Runs.{Runs};
-ghost use Rattle.ride.specs.Image.{Mounts};
+ghost use Rattle.image.specs.Image.{Mounts};
 ghost use Rattle.ride.specs.Ride.{ridden};
 ghost use Rattle.export.specs.Results.{told, made, built};
 ghost use Rattle.build.specs.Build.{Builds};
@@ -124,7 +124,7 @@ pub extern "C" fn cv_build(
 pub extern "C" fn cv_mount(table: &[u8], image: &mut [u32]) -> u8
     ensures { λ r. ⌜ Mounts (now (table .entry)) (now (image .entry)) (now (image .exit)) r ⌝ }
 {
-    ride::mount(table, image)
+    image::mount(table, image)
 }
 
 // A run over an image: on the image that mounting wrote of a taken table it is the run of that table.

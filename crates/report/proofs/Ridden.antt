@@ -13,7 +13,7 @@ use Rattle.loader.proofs.Situated.{table-long}
 use Rattle.loader.proofs.Judging.{is-formed, judged-one}
 use Rattle.run.specs.Runs.{long, fit}
 use Rattle.ground.proofs.Every.{all-bytes}
-use Rattle.ride.specs.Image.{Mounts, unfit, small, written}
+use Rattle.image.specs.Image.{Mounts, unfit, small, written}
 use Rattle.ride.specs.Ride.{ridden}
 use Rattle.ride.proofs.Same.{ride-is-run}
 use Rattle.report.specs.Text.{Wrote}

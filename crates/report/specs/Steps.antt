@@ -6,7 +6,7 @@ use lib.ListN.{length, take}
 use lib.Dec.{eqb}
 use Rattle.ground.specs.Pick.{pick}
 use Rattle.card.specs.Judged.{Judged}
-use Rattle.ride.specs.Image.{Mounts}
+use Rattle.image.specs.Image.{Mounts}
 use Rattle.build.specs.declared.Built.{Built}
 use Rattle.report.specs.Text.{Wrote}
 

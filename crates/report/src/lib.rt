@@ -255,7 +255,7 @@ fn put_built(out: &mut [u8], table: &[u8], built: Built, input: &[u8], from: usi
     let length = built.length;
     let card = &table[0..length];
     let mut image = [0u32; 24672];
-    ride::mount(card, &mut image);
+    image::mount(card, &mut image);
     let at = put_table(out, 0, length, built.situations, built.registers);
     put_records(out, at, card, &image, input, from)
 }

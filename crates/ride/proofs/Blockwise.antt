@@ -1,21 +1,18 @@
 -- A block of commands carried out, register by register. Assumes nothing.
-use Prim.Native.Nat.{ℕ, zero, suc, _+_, _-_, _*_, _/_, _%_, _<_, _≤_}
+use Prim.Native.Nat.{ℕ, zero, suc, _+_, _-_, _/_, _%_, _<_, _≤_}
 use native.Mathlib.Omega.{arith}
 use native.Mathlib.Numerals.{add-one}
 use mathlib.Core.Path.{_≡_, refl, sym, ap, ap₂, _∙_}
-use mathlib.Core.Bool.{Bool, true, false}
+use mathlib.Core.Bool.{true, false}
 use mathlib.Core.List.{List, [], _∷_, _++_}
 use lib.ListN.{set}
 use lib.Seq.{getD-set-other, set-comm}
 use lib.IntN.{ℤ, pos}
-use lib.Dec.{ltb}
-use borrow.Author.Tests.{lt-ltb, le-ltb, ltb-false}
-use Rattle.ground.specs.Pick.{pick}
-use Rattle.ground.proofs.Picks.{picked, passed}
 use Rattle.card.specs.Table.{Cmd, move, put}
 use Rattle.card.specs.Run.{Bank, reg}
 use Rattle.run.specs.Carry.{carry}
-use Rattle.ride.specs.Image.{puts, moves, misfit, blockBits, ofBits}
+use Rattle.image.specs.Image.{puts, moves, misfit, ofBits}
+use Rattle.image.proofs.Blocks.{past-bank, downward}
 use Rattle.ride.specs.Need.{Blocked}
 
 -- one list after the other
@@ -171,45 +168,6 @@ module _ (p : ℕ) (old : Bank) where
   pub eight-stored : (a f : ℕ) {v0 v1 v2 v3 v4 v5 v6 v7 : ℤ} → v0 ≡ reg old f → v1 ≡ reg old (f + 1) → v2 ≡ reg old (f + 2) → v3 ≡ reg old (f + 3) → v4 ≡ reg old (f + 4) → v5 ≡ reg old (f + 5) → v6 ≡ reg old (f + 6) → v7 ≡ reg old (f + 7)
       → set (set (set (set (set (set (set (set old a v0) (a + 1) v1) (a + 2) v2) (a + 3) v3) (a + 4) v4) (a + 5) v5) (a + 6) v6) (a + 7) v7 ≡ carry (moves a f 8) p old old
   eight-stored a f h0 h1 h2 h3 h4 h5 h6 h7 = rw (h0, h1, h2, h3, h4, h5, h6, h7) (eight-moves a f)
-
--- ---- four numbers that name a block, or none
-
--- four numbers that are equal
-pub ap₄ : {A : Type 0} (g : (a k s n : ℕ) → A) {a b c d a′ b′ c′ d′ : ℕ} → a ≡ a′ → b ≡ b′ → c ≡ c′ → d ≡ d′ → g a b c d ≡ g a′ b′ c′ d′
-ap₄ g e f h i = cc
-
--- they come out of their bits
-pub bits-fit : (a k s n : ℕ) → a < 64 → 1 ≤ k → k ≤ 32 → n < 64 → s < 64 → blockBits a k s n < 8388608
-unfolding blockBits
-bits-fit a k s n first some few more from = omega arith
-
-pub bits-out : {A : Type 0} (g : (a k s n : ℕ) → A) (a k s n : ℕ) → a < 64 → 1 ≤ k → k ≤ 32 → n < 64 → s < 64 → ofBits g (blockBits a k s n) ≡ g a k s n
-unfolding blockBits
-bits-out g a k s n first some few more from =
-    let m : blockBits a k s n / 2048 ≡ n + 64 * s = omega arith in
-    let q : (n + 64 * s) % 64 ≡ n = omega arith in
-    ap₄ g (omega arith) (omega arith) (omega arith) (ap (λ (x : ℕ). x % 64) m ∙ q)
-
-module _ (a k s n : ℕ) where
-  past-bank : 64 < a + k + n → misfit a k s n ≡ true
-  unfolding misfit
-  past-bank h = picked true (ltb (a + k) s) (lt-ltb 64 (a + k + n) h)
-
-  downward : a + k + n ≤ 64 → a + k < s → misfit a k s n ≡ true
-  unfolding misfit
-  downward g h = passed true (ltb (a + k) s) (le-ltb 64 (a + k + n) g) ∙ lt-ltb (a + k) s h
-
-  pub no-misfit : a + k + n ≤ 64 → s ≤ a + k → misfit a k s n ≡ false
-  unfolding misfit
-  no-misfit g h = passed true (ltb (a + k) s) (le-ltb 64 (a + k + n) g) ∙ le-ltb (a + k) s h
-
-  pub in-bank : misfit a k s n ≡ false → (a + k + n ≤ 64) × (s ≤ a + k)
-  unfolding misfit pick
-  in-bank h = by (ltb 64 (a + k + n)) refl h
-    where
-      by : (b : Bool) → ltb 64 (a + k + n) ≡ b → pick b true (ltb (a + k) s) ≡ false → (a + k + n ≤ 64) × (s ≤ a + k)
-      by true e g = let z : _≡_ {A = ℕ} 0 1 = cc in absurd (omega arith)
-      by false e g = (ltb-false 64 (a + k + n) e, ltb-false (a + k) s g)
 
 -- ---- the whole block
 

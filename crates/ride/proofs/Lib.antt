@@ -1,15 +1,9 @@
 pub mod Blockwise
-pub mod Sorting
 pub mod Ordered
 pub mod Obeying
 pub mod Telling
 pub mod Riding
 pub mod Lines
 pub mod Answering
-pub mod Spots
-pub mod Entries
-pub mod Written
-pub mod Bounds
-pub mod Mounting
 pub mod Mounted
 pub mod Same

@@ -1,10 +1,10 @@
 -- A line from its beginning to its end. Assumes nothing.
-use Prim.Native.Nat.{ℕ, _*_, _<_, _≤_}
+use Prim.Native.Nat.{ℕ, _*_, _≤_}
 use native.Mathlib.Omega.{arith}
-use mathlib.Core.Path.{_≡_, refl, sym, ap, _∙_}
+use mathlib.Core.Path.{_≡_, refl, ap, _∙_}
 use mathlib.Core.List.{List}
 use lib.ListN.{length, getD, replicate}
-use Rattle.card.specs.Run.{Bank, empties, absent, lineMax}
+use Rattle.card.specs.Run.{Bank, absent, lineMax}
 use Rattle.card.specs.Decode.{cmdsAt}
 use Rattle.run.specs.Carry.{carry}
 use Rattle.run.proofs.Cells.{regs-carry}

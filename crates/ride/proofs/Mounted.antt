@@ -19,12 +19,12 @@ use Rattle.ground.proofs.Picks.{by-test}
 use Rattle.card.proofs.Laws.{at-end}
 use Rattle.card.proofs.Rows.{row-whole, no-line, row-ends, row-here, row-later}
 use Rattle.run.proofs.Carrying.{no-cmds}
-use Rattle.ride.specs.Image.{block, misfit, blockBits, ofBits, firstTo, firstFrom, leading, behind, ofList, isBlock, nextOf, kindOf, cellOf, listOf, entry, allSets, listKind, points, spotAt, entryAt}
+use Rattle.image.specs.Image.{block, misfit, blockBits, ofBits, firstTo, firstFrom, leading, behind, ofList, isBlock, nextOf, kindOf, cellOf, listOf, entry, allSets, listKind, points, spotAt, entryAt}
 use Rattle.ride.specs.Ride.{onlySets, orders, listless}
-use Rattle.ride.proofs.Spots.{after-past, spot-ends, spot-here, spot-later}
-use Rattle.ride.proofs.Entries.{entry-ends, entry-leads}
-use Rattle.ride.proofs.Blockwise.{ap₄, in-bank, bits-fit, bits-out}
-use Rattle.ride.proofs.Sorting.{That, that-is, from-low}
+use Rattle.image.proofs.Spots.{after-past, spot-ends, spot-here, spot-later}
+use Rattle.image.proofs.Entries.{entry-ends, entry-leads}
+use Rattle.image.proofs.Blocks.{ap₄, in-bank, bits-fit, bits-out}
+use Rattle.image.proofs.Sorting.{That, that-is, from-low}
 use Rattle.ride.proofs.Ordered.{none-listed, none-ordered, one-ordered, block-listed, block-ordered, list-listed, sets-ordered, all-ordered}
 
 -- ---- SETs only

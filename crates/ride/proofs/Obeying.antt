@@ -2,7 +2,7 @@
 use Prim.Native.Nat.{ℕ, zero, suc, _+_, _/_, _%_, _<_, _≤_}
 use native.Mathlib.Omega.{arith}
 use native.Mathlib.Decide.{ℕ-discrete}
-use mathlib.Core.Path.{_≡_, refl, sym, ap, _∙_, subst}
+use mathlib.Core.Path.{_≡_, sym, ap, _∙_, subst}
 use mathlib.Core.Bool.{Bool, true, false}
 use mathlib.Core.Logic.{_⊎_, inl, inr}
 use mathlib.Core.List.{List, [], _∷_, _++_}
@@ -17,10 +17,10 @@ use Rattle.card.specs.declared.Order.the-variants.{Move, Put, Stop}
 use Rattle.card.proofs.Laws.{cmds-step}
 use Rattle.run.specs.Carry.{carry}
 use Rattle.run.proofs.Cells.{Sources, sources-at}
-use Rattle.ride.specs.Image.{puts, moves, block, misfit, ofBits, kindOf, cellOf, listOf}
+use Rattle.image.specs.Image.{puts, moves, block, misfit, kindOf, cellOf, listOf}
 use Rattle.ride.specs.Ride.{onlySets, orders, listless}
 use Rattle.ride.specs.Need.{Blocked, Obeyed}
-use Rattle.ride.proofs.Blockwise.{in-bank}
+use Rattle.image.proofs.Blocks.{in-bank}
 use Rattle.ride.proofs.Ordered.{none-ordered, one-ordered, block-listed, block-ordered, list-listed, sets-ordered, all-ordered}
 
 -- ---- SETs alone

@@ -11,7 +11,7 @@ use Rattle.ground.specs.Pick.{pick}
 use Rattle.ground.proofs.Picks.{pick-lt, pick-not-lt}
 use Rattle.card.specs.Table.{Cmd, put}
 use Rattle.card.specs.Decode.{cmdsAt}
-use Rattle.ride.specs.Image.{block, misfit, ofBits, kindOf, cellOf, listOf}
+use Rattle.image.specs.Image.{block, misfit, ofBits, kindOf, cellOf, listOf}
 use Rattle.ride.specs.Ride.{onlySets, orders, listless}
 
 module _ (s : List ℕ) (e : ℕ) where

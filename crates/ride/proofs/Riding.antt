@@ -4,7 +4,7 @@ use native.Mathlib.Omega.{arith}
 use native.Mathlib.Numerals.{add-one}
 use mathlib.Core.Path.{_≡_, refl, sym, ap, ap₂, _∙_}
 use mathlib.Core.Bool.{Bool, true, false}
-use mathlib.Core.List.{List, []}
+use mathlib.Core.List.{List}
 use mathlib.Core.Logic.{_⊎_, inl, inr}
 use lib.ListN.{length, getD, set, take, drop, length-take, length-drop, drop-of-length-le}
 use lib.Seq.{getD-take, getD-drop, drop-cons}
@@ -13,11 +13,11 @@ use lib.Dec.{leb, eqb}
 use borrow.Author.Tests.{le-leb, lt-leb, eq-eqb, ne-eqb}
 use Rattle.ground.specs.Pick.{pick}
 use Rattle.ground.proofs.Tests.{lt-or-le}
-use Rattle.card.specs.Table.{Cmd, put}
+use Rattle.card.specs.Table.{Cmd}
 use Rattle.card.specs.Run.{Bank, Told, refused}
 use Rattle.run.specs.Carry.{carry}
 use Rattle.run.proofs.Cells.{regs-set-low, regs-set-high, regs-carry}
-use Rattle.ride.specs.Image.{nextOf, kindOf, cellOf}
+use Rattle.image.specs.Image.{nextOf, kindOf, cellOf}
 use Rattle.ride.specs.Ride.{orders, listless, astray, endAt, taking, ridesFrom}
 use Rattle.ride.specs.Need.{Obeyed, regs, left, ended, rowOf, Standing, Reached, Hopped, stops, stays, hops}
 use Rattle.ride.proofs.Ordered.{none-listed, none-ordered, one-ordered}

@@ -26,12 +26,12 @@ use Rattle.run.proofs.Filling.{told-fields}
 use Rattle.run.proofs.Riding.{run-lost}
 use Rattle.run.proofs.Telling.{eight}
 use Rattle.run.proofs.One.{runs-one}
-use Rattle.ride.specs.Image.{nextOf, spotAt, entryAt, Imaged, Mounts, unfit, small, written}
+use Rattle.image.specs.Image.{nextOf, spotAt, entryAt, Imaged, Mounts, unfit, small, written}
 use Rattle.ride.specs.Ride.{orders, endAt, taking, ridesFrom, started, ridden}
 use Rattle.ride.proofs.Riding.{counted}
 use Rattle.ride.proofs.Telling.{end-of}
 use Rattle.ride.proofs.Answering.{ridden-long, ridden-on}
-use Rattle.ride.proofs.Mounting.{taken-short}
+use Rattle.image.proofs.Mounting.{taken-short}
 use Rattle.ride.proofs.Mounted.{SaysRow, sets-whole, spot-says}
 
 -- ---- the way

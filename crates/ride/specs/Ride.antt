@@ -10,7 +10,7 @@ use Rattle.card.specs.Table.{Cmd, move, put}
 use Rattle.card.specs.Run.{Bank, empties, lineMax, Told, refused}
 use Rattle.card.specs.Decode.{cmdsAt}
 use Rattle.run.specs.Carry.{carry, fieldAt}
-use Rattle.ride.specs.Image.{block, misfit, ofBits, nextOf, kindOf, cellOf, listOf}
+use Rattle.image.specs.Image.{block, misfit, ofBits, nextOf, kindOf, cellOf, listOf}
 
 -- the SETs that a list begins with
 abbrev pub onlySets : List Cmd → List Cmd

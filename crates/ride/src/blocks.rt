@@ -3,7 +3,7 @@ ghost use mathlib.Core.Path.{_≡_};
 ghost use Prim.Native.Nat.{ℕ, _+_, _≤_};
 ghost use Rattle.card.specs.Run.{lineMax};
 ghost use Rattle.run.specs.Carry.{carry};
-ghost use Rattle.ride.specs.Image.{puts, moves};
+ghost use Rattle.image.specs.Image.{puts, moves};
 ghost use Rattle.ride.specs.Need.{Blocked};
 
 // Eight MOVEs. All sources are read before a target is stored, so that the compiler makes one load and one store of them.

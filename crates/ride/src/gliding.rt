@@ -2,7 +2,6 @@
 // store; what lies past the 64 registers is never read.
 ghost use mathlib.Core.Path.{_≡_};
 ghost use Prim.Native.Nat.{_≤_, _<_};
-ghost use lib.ListN.{length};
 ghost use Rattle.card.specs.Run.{lineMax};
 ghost use Rattle.ride.specs.Need.{Glidable, Reached, Hopped};
 

@@ -1,7 +1,6 @@
-// A load-once run: a table is judged and written as an image once, then lines ride over the image.
+// A load-once run: lines ride over the image that `image::mount` writes of a table.
 mod blocks;
 mod gliding;
-mod imaging;
 
 ghost use mathlib.Core.Path.{_≡_};
 ghost use Prim.Native.Nat.{_≤_, _<_, _*_};
@@ -10,12 +9,10 @@ ghost use Rattle.card.specs.Decode.{cmdsAt};
 ghost use Rattle.card.specs.Run.{lineMax, refused};
 ghost use Rattle.run.specs.Carry.{carry};
 ghost use Rattle.run.specs.Runs.{toldOf};
-ghost use Rattle.ride.specs.Image.{Mounts};
 ghost use Rattle.ride.specs.Ride.{onlySets, endAt, ridesFrom, started, ridden};
 ghost use Rattle.ride.specs.Need.{Obeyed, regs, left, ended, Ends, Glidable, Fits};
 use answers::LINE_LONG;
 use answers::NO_MATCH;
-use answers::OUT_SMALL;
 use answers::TABLE_FORM;
 use card::Order;
 use gliding::ASTRAY;
@@ -185,7 +182,8 @@ fn ride_line(s: &[u8], image: &[u32], count: usize, line: &[u8]) -> Ran
     told(s, image, count, row, &bank)
 }
 
-// Two lines in step, as far as both glide, so that their loads overlap; then the rest of each.
+// Two lines in step, as far as both glide, so that their loads overlap; then the rest of each. Most end gliding, which
+// one test says of both.
 fn ride_both(s: &[u8], image: &[u32], count: usize, line: &[u8], other: &[u8]) -> Two
     requires { ⌜ Fits (now s) (now image) count × (length (now line) ≤ lineMax) × (length (now other) ≤ lineMax) ⌝ }
     ensures { λ r. ⌜ (toldOf (r .first) ≡ ridesFrom (now (s .entry)) (now (image .entry)) 0 (started (now (s .entry))) 0 (now (line .entry))) × (toldOf (r .second) ≡ ridesFrom (now (s .entry)) (now (image .entry)) 0 (started (now (s .entry))) 0 (now (other .entry))) ⌝ }
@@ -198,12 +196,7 @@ fn ride_both(s: &[u8], image: &[u32], count: usize, line: &[u8], other: &[u8]) -
     let g = gliding::glide_two(image, limit, line, other, &mut bank, &mut beside);
     let x = gliding::glide(image, limit, line, g.place, g.row, &mut bank);
     let y = gliding::glide(image, limit, other, g.place2, g.row2, &mut beside);
-    if x.place < line.len() {
-        let first = finish(s, image, count, line, x.place, x.row, &mut bank);
-        let second = finish(s, image, count, other, y.place, y.row, &mut beside);
-        return Two { first, second };
-    }
-    if y.place < other.len() {
+    if x.place + y.place < line.len() + other.len() {
         let first = finish(s, image, count, line, x.place, x.row, &mut bank);
         let second = finish(s, image, count, other, y.place, y.row, &mut beside);
         return Two { first, second };
@@ -275,23 +268,4 @@ pub fn ride_two(table: &[u8], image: &[u32], line: &[u8], other: &[u8]) -> Two
         return Two { first, second };
     }
     ride_both(table, image, count, line, other)
-}
-
-// Judges a table and writes its image: 13 and 14 as the loader judges, 12 where the image has no room for 257 numbers a
-// situation. A refusal leaves the image as it was.
-pub fn mount(table: &[u8], image: &mut [u32]) -> u8
-    ensures { λ r. ⌜ Mounts (now (table .entry)) (now (image .entry)) (now (image .exit)) r ⌝ }
-{
-    let j = loader::judge(table);
-    let code = j.code;
-    if code != 0 {
-        return code;
-    }
-    let count = card::sit_count(table);
-    if image.len() < 257 * count {
-        return OUT_SMALL;
-    }
-    let places = j.places;
-    imaging::write_image(table, &places, image);
-    0
 }

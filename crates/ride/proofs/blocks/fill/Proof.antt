@@ -8,7 +8,7 @@ use mir.Syntax.{w16}
 use mir.ValLaws.{toZ-ofZ}
 use Rattle.ground.proofs.Places.{place-fits}
 use Rattle.run.specs.Carry.{carry}
-use Rattle.ride.specs.Image.{puts}
+use Rattle.image.specs.Image.{puts}
 use Rattle.ride.proofs.Blockwise.{fill-first, fill-next, fill-last}
 use Rattle.ride.proofs.blocks.fill.Statement.{statement}
 use Rattle.ride.proofs.blocks.fill.Tie as tie

@@ -1,5 +1,6 @@
 -- `ride::blocks::obey_block` meets its contract. Assumes nothing.
-use Rattle.ride.proofs.Blockwise.{no-misfit, blocked-past, blocked-down, blocked-done}
+use Rattle.image.proofs.Blocks.{no-misfit}
+use Rattle.ride.proofs.Blockwise.{blocked-past, blocked-down, blocked-done}
 use native.Mathlib.Omega.{arith}
 use borrow.Author.Needs.{needs}
 use Rattle.ride.proofs.blocks.obey_block.Statement.{statement}

@@ -5,7 +5,7 @@ use borrow.Author.Needs.{needs}
 use mathlib.Core.Path.{_≡_}
 use Rattle.ride.proofs.Blockwise.{shift-first, shift-next, shift-last}
 use Rattle.run.specs.Carry.{carry}
-use Rattle.ride.specs.Image.{moves}
+use Rattle.image.specs.Image.{moves}
 use Rattle.ride.proofs.blocks.shift.Statement.{statement}
 use Rattle.ride.proofs.blocks.shift.Tie as tie
 

@@ -10,7 +10,7 @@ use mir.Syntax.{w16}
 use mir.ValLaws.{toZ-ofZ}
 use Rattle.ride.proofs.Blockwise.{shift-first, shift-next, shift-done}
 use Rattle.run.specs.Carry.{carry}
-use Rattle.ride.specs.Image.{moves}
+use Rattle.image.specs.Image.{moves}
 use Rattle.ride.proofs.blocks.shift_few.Statement.{statement}
 use Rattle.ride.proofs.blocks.shift_few.Tie as tie
 
