@@ -1,4 +1,3 @@
-pub mod Blockwise
 pub mod Ordered
 pub mod Obeying
 pub mod Telling

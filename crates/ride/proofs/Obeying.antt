@@ -19,7 +19,8 @@ use Rattle.run.specs.Carry.{carry}
 use Rattle.run.proofs.Cells.{Sources, sources-at}
 use Rattle.image.specs.Image.{puts, moves, block, misfit, kindOf, cellOf, listOf}
 use Rattle.ride.specs.Ride.{onlySets, orders, listless}
-use Rattle.ride.specs.Need.{Blocked, Obeyed}
+use Rattle.blocks.specs.Blocked.{Blocked}
+use Rattle.ride.specs.Need.{Obeyed}
 use Rattle.image.proofs.Blocks.{in-bank}
 use Rattle.ride.proofs.Ordered.{none-ordered, one-ordered, block-listed, block-ordered, list-listed, sets-ordered, all-ordered}
 

@@ -10,13 +10,8 @@ use lib.Dec.{eqb}
 use Rattle.ground.specs.Pick.{pick}
 use Rattle.card.specs.Run.{Bank, lineMax, Told, refused}
 use Rattle.run.specs.Carry.{carry}
-use Rattle.image.specs.Image.{nextOf, block, misfit, ofBits}
+use Rattle.image.specs.Image.{nextOf}
 use Rattle.ride.specs.Ride.{orders, listless, endAt, ridesFrom}
-
--- the block that some bits name is carried out unless they name none
-pub record Blocked (w place : ℕ) (old new : Bank) (r : Bool) : Type 0 where
-  pub done : r ≡ true → (ofBits misfit w ≡ false) × (new ≡ carry (ofBits block w) place old old)
-  pub past : r ≡ false → ofBits misfit w ≡ true
 
 -- the commands of an entry are carried out unless its numbers name no block or its list stands past the table's end
 pub record Obeyed (s : List ℕ) (e place : ℕ) (old new : Bank) (r : Bool) : Type 0 where

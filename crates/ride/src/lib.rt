@@ -1,5 +1,4 @@
 // A load-once run: lines ride over the image that `image::mount` writes of a table.
-mod blocks;
 mod gliding;
 
 ghost use mathlib.Core.Path.{_≡_};

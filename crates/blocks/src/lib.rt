@@ -4,7 +4,7 @@ ghost use Prim.Native.Nat.{ℕ, _+_, _≤_};
 ghost use Rattle.card.specs.Run.{lineMax};
 ghost use Rattle.run.specs.Carry.{carry};
 ghost use Rattle.image.specs.Image.{puts, moves};
-ghost use Rattle.ride.specs.Need.{Blocked};
+ghost use Rattle.blocks.specs.Blocked.{Blocked};
 
 // Eight MOVEs. All sources are read before a target is stored, so that the compiler makes one load and one store of them.
 fn move_eight(bank: &mut [i16; 128], a: usize, f: usize)

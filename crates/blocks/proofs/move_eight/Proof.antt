@@ -1,14 +1,14 @@
--- `ride::blocks::move_eight` meets its contract: each value fits, and the eight stores are eight MOVEs. Assumes nothing.
+-- `blocks::move_eight` meets its contract: each value fits, and the eight stores are eight MOVEs. Assumes nothing.
 use Prim.Native.Nat.{_+_}
 use lib.ListN.{getD}
 use lib.IntN.{pos}
 use mir.Val.{SFits}
 use mir.Syntax.{w16}
 use mir.ValLaws.{toZ-ofZ}
-use Rattle.ride.proofs.Blockwise.{eight-stored}
+use Rattle.blocks.proofs.Blockwise.{eight-stored}
 use borrow.Author.Needs.{needs}
-use Rattle.ride.proofs.blocks.move_eight.Statement.{statement}
-use Rattle.ride.proofs.blocks.move_eight.Tie as tie
+use Rattle.blocks.proofs.move_eight.Statement.{statement}
+use Rattle.blocks.proofs.move_eight.Tie as tie
 
 mul-v0 : tie.Need-mul-v0
 mul-v0 c = search needs

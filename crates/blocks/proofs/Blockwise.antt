@@ -13,7 +13,7 @@ use Rattle.card.specs.Run.{Bank, reg}
 use Rattle.run.specs.Carry.{carry}
 use Rattle.image.specs.Image.{puts, moves, misfit, ofBits}
 use Rattle.image.proofs.Blocks.{past-bank, downward}
-use Rattle.ride.specs.Need.{Blocked}
+use Rattle.blocks.specs.Blocked.{Blocked}
 
 -- one list after the other
 carry-append : (l m : List Cmd) (p : ℕ) (old cur : Bank) → carry (l ++ m) p old cur ≡ carry m p old (carry l p old cur)

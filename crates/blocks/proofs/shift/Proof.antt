@@ -1,13 +1,13 @@
--- `ride::blocks::shift` meets its contract: the MOVEs above are done. Assumes nothing.
+-- `blocks::shift` meets its contract: the MOVEs above are done. Assumes nothing.
 use Prim.Native.Nat.{ℕ, _+_, _-_, _≤_}
 use native.Mathlib.Omega.{arith}
 use borrow.Author.Needs.{needs}
 use mathlib.Core.Path.{_≡_}
-use Rattle.ride.proofs.Blockwise.{shift-first, shift-next, shift-last}
+use Rattle.blocks.proofs.Blockwise.{shift-first, shift-next, shift-last}
 use Rattle.run.specs.Carry.{carry}
 use Rattle.image.specs.Image.{moves}
-use Rattle.ride.proofs.blocks.shift.Statement.{statement}
-use Rattle.ride.proofs.blocks.shift.Tie as tie
+use Rattle.blocks.proofs.shift.Statement.{statement}
+use Rattle.blocks.proofs.shift.Tie as tie
 
 abbrev Inv-loop : tie.InvT-loop
 Inv-loop bank₀ a f n i₀ bank i = (i ≤ n) × ((p : ℕ) → bank ≡ carry (moves (a + i) (f + i) (n - i)) p bank₀ bank₀)

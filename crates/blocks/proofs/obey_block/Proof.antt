@@ -1,10 +1,10 @@
--- `ride::blocks::obey_block` meets its contract. Assumes nothing.
+-- `blocks::obey_block` meets its contract. Assumes nothing.
 use Rattle.image.proofs.Blocks.{no-misfit}
-use Rattle.ride.proofs.Blockwise.{blocked-past, blocked-down, blocked-done}
+use Rattle.blocks.proofs.Blockwise.{blocked-past, blocked-down, blocked-done}
 use native.Mathlib.Omega.{arith}
 use borrow.Author.Needs.{needs}
-use Rattle.ride.proofs.blocks.obey_block.Statement.{statement}
-use Rattle.ride.proofs.blocks.obey_block.Tie as tie
+use Rattle.blocks.proofs.obey_block.Statement.{statement}
+use Rattle.blocks.proofs.obey_block.Tie as tie
 
 add-k : tie.Need-add-k
 add-k c = search needs

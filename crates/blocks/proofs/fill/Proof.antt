@@ -1,4 +1,4 @@
--- `ride::blocks::fill` meets its contract: the SETs left, on the bank so far, are the whole. Assumes nothing.
+-- `blocks::fill` meets its contract: the SETs left, on the bank so far, are the whole. Assumes nothing.
 use Prim.Native.Nat.{_+_, _-_, _≤_}
 use native.Mathlib.Omega.{arith}
 use borrow.Author.Needs.{needs}
@@ -9,9 +9,9 @@ use mir.ValLaws.{toZ-ofZ}
 use Rattle.ground.proofs.Places.{place-fits}
 use Rattle.run.specs.Carry.{carry}
 use Rattle.image.specs.Image.{puts}
-use Rattle.ride.proofs.Blockwise.{fill-first, fill-next, fill-last}
-use Rattle.ride.proofs.blocks.fill.Statement.{statement}
-use Rattle.ride.proofs.blocks.fill.Tie as tie
+use Rattle.blocks.proofs.Blockwise.{fill-first, fill-next, fill-last}
+use Rattle.blocks.proofs.fill.Statement.{statement}
+use Rattle.blocks.proofs.fill.Tie as tie
 
 abbrev Inv-loop : tie.InvT-loop
 Inv-loop bank₀ a k place v end i₀ bank i = (i ≤ a + k) × (carry (puts i (a + k - i)) place bank₀ bank ≡ carry (puts a k) place bank₀ bank₀)

@@ -1,4 +1,4 @@
--- `ride::blocks::shift_few` meets its contract: the MOVEs above are done. Assumes nothing.
+-- `blocks::shift_few` meets its contract: the MOVEs above are done. Assumes nothing.
 use Prim.Native.Nat.{ℕ, _+_, _-_, _≤_}
 use native.Mathlib.Omega.{arith}
 use borrow.Author.Needs.{needs}
@@ -8,11 +8,11 @@ use lib.IntN.{pos}
 use mir.Val.{SFits}
 use mir.Syntax.{w16}
 use mir.ValLaws.{toZ-ofZ}
-use Rattle.ride.proofs.Blockwise.{shift-first, shift-next, shift-done}
+use Rattle.blocks.proofs.Blockwise.{shift-first, shift-next, shift-done}
 use Rattle.run.specs.Carry.{carry}
 use Rattle.image.specs.Image.{moves}
-use Rattle.ride.proofs.blocks.shift_few.Statement.{statement}
-use Rattle.ride.proofs.blocks.shift_few.Tie as tie
+use Rattle.blocks.proofs.shift_few.Statement.{statement}
+use Rattle.blocks.proofs.shift_few.Tie as tie
 
 abbrev Inv-loop : tie.InvT-loop
 Inv-loop bank₀ a f n i₀ bank i = (i ≤ n) × ((p : ℕ) → bank ≡ carry (moves (a + i) (f + i) (n - i)) p bank₀ bank₀)
