@@ -143,31 +143,30 @@ module _ (p : ℕ) (old : Bank) where
     unfolding carry
     shift-done j {cur} l e = let z : 0 ≡ j = omega arith in shift-last j (omega arith) e (ap (λ (m : ℕ). carry (moves a f m) p cur cur) z)
 
-  -- eight of them, as they are stored
-  eight-moves : (a f : ℕ)
-      → set (set (set (set (set (set (set (set old a (reg old f)) (a + 1) (reg old (f + 1))) (a + 2) (reg old (f + 2))) (a + 3) (reg old (f + 3))) (a + 4) (reg old (f + 4))) (a + 5) (reg old (f + 5))) (a + 6) (reg old (f + 6))) (a + 7) (reg old (f + 7))
-      ≡ carry (moves a f 8) p old old
-  unfolding carry
-  eight-moves a f =
-      let x1 : a + 1 ≡ suc a = omega arith in
-      let y1 : f + 1 ≡ suc f = omega arith in
-      let x2 : a + 2 ≡ suc (suc a) = omega arith in
-      let y2 : f + 2 ≡ suc (suc f) = omega arith in
-      let x3 : a + 3 ≡ suc (suc (suc a)) = omega arith in
-      let y3 : f + 3 ≡ suc (suc (suc f)) = omega arith in
-      let x4 : a + 4 ≡ suc (suc (suc (suc a))) = omega arith in
-      let y4 : f + 4 ≡ suc (suc (suc (suc f))) = omega arith in
-      let x5 : a + 5 ≡ suc (suc (suc (suc (suc a)))) = omega arith in
-      let y5 : f + 5 ≡ suc (suc (suc (suc (suc f)))) = omega arith in
-      let x6 : a + 6 ≡ suc (suc (suc (suc (suc (suc a))))) = omega arith in
-      let y6 : f + 6 ≡ suc (suc (suc (suc (suc (suc f))))) = omega arith in
-      let x7 : a + 7 ≡ suc (suc (suc (suc (suc (suc (suc a)))))) = omega arith in
-      let y7 : f + 7 ≡ suc (suc (suc (suc (suc (suc (suc f)))))) = omega arith in
-      rw (x1, y1, x2, y2, x3, y3, x4, y4, x5, y5, x6, y6, x7, y7)
+-- ---- upward, one by one: what is left of n MOVEs after t of them
 
-  pub eight-stored : (a f : ℕ) {v0 v1 v2 v3 v4 v5 v6 v7 : ℤ} → v0 ≡ reg old f → v1 ≡ reg old (f + 1) → v2 ≡ reg old (f + 2) → v3 ≡ reg old (f + 3) → v4 ≡ reg old (f + 4) → v5 ≡ reg old (f + 5) → v6 ≡ reg old (f + 6) → v7 ≡ reg old (f + 7)
-      → set (set (set (set (set (set (set (set old a v0) (a + 1) v1) (a + 2) v2) (a + 3) v3) (a + 4) v4) (a + 5) v5) (a + 6) v6) (a + 7) v7 ≡ carry (moves a f 8) p old old
-  eight-stored a f h0 h1 h2 h3 h4 h5 h6 h7 = rw (h0, h1, h2, h3, h4, h5, h6, h7) (eight-moves a f)
+module _ (p : ℕ) (old : Bank) (a f n : ℕ) where
+  abbrev pub from : ℕ → Bank → Bank
+  from t cur = carry (moves (a + t) (f + t) (n - t)) p old cur
+
+  pub move-first : (cur : Bank) → from 0 cur ≡ carry (moves a f n) p old cur
+  move-first cur =
+      let x : a + 0 ≡ a = omega arith in
+      let y : f + 0 ≡ f = omega arith in
+      let z : n - 0 ≡ n = omega arith in
+      rw (x, y, z)
+
+  pub move-next : (t : ℕ) (cur : Bank) → t < n → {v : ℤ} → v ≡ reg old (f + t) → from (t + 1) (set cur (a + t) v) ≡ from t cur
+  unfolding carry
+  move-next t cur h k =
+      let x : a + (t + 1) ≡ suc (a + t) = omega arith in
+      let y : f + (t + 1) ≡ suc (f + t) = omega arith in
+      let z : n - t ≡ suc (n - (t + 1)) = omega arith in
+      rw (x, y, z, k)
+
+  pub move-last : (t : ℕ) (cur : Bank) → n ≤ t → cur ≡ from t cur
+  unfolding carry
+  move-last t cur h = let z : n - t ≡ 0 = omega arith in rw z
 
 -- ---- the whole block
 

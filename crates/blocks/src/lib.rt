@@ -1,32 +1,46 @@
 // A block of commands carried out in place: registers that shift upward as one, and registers that are set to one place.
 ghost use mathlib.Core.Path.{_≡_};
 ghost use Prim.Native.Nat.{ℕ, _+_, _≤_};
-ghost use Rattle.card.specs.Run.{lineMax};
+ghost use Rattle.card.specs.Run.{Bank, lineMax};
 ghost use Rattle.run.specs.Carry.{carry};
 ghost use Rattle.image.specs.Image.{puts, moves};
-ghost use Rattle.blocks.specs.Blocked.{Blocked};
+ghost use Rattle.blocks.specs.Blocked.{Held, Blocked};
+
+// What the eight registers from f on hold.
+fn eight_at(bank: &[i16; 128], f: usize) -> [i16; 8]
+    requires { ⌜ f + 8 ≤ 64 ⌝ }
+    ensures { λ r. ⌜ Held (now (bank .entry)) f r ⌝ }
+{
+    let mut v = [0i16; 8];
+    let mut t: usize = 0;
+    while t < 8 {
+        let x = bank[f + t];
+        v[t] = x;
+        t += 1;
+    }
+    v
+}
+
+// Eight values stored to the registers from a on: if eight registers of a bank hold them, eight MOVEs from those.
+fn put_eight(bank: &mut [i16; 128], a: usize, v: [i16; 8])
+    requires { ⌜ a + 8 ≤ 64 ⌝ }
+    ensures { λ _. ⌜ ((old : Bank) (f p : ℕ) → Held old f v → now (bank .exit) ≡ carry (moves a f 8) p old (now (bank .entry))) ⌝ }
+{
+    let mut t: usize = 0;
+    while t < 8 {
+        let x = v[t];
+        bank[a + t] = x;
+        t += 1;
+    }
+}
 
 // Eight MOVEs. All sources are read before a target is stored, so that the compiler makes one load and one store of them.
 fn move_eight(bank: &mut [i16; 128], a: usize, f: usize)
     requires { ⌜ (a + 8 ≤ 64) × (f + 8 ≤ 64) ⌝ }
     ensures { λ _. ⌜ ((p : ℕ) → now (bank .exit) ≡ carry (moves a f 8) p (now (bank .entry)) (now (bank .entry))) ⌝ }
 {
-    let v0 = bank[f];
-    let v1 = bank[f + 1];
-    let v2 = bank[f + 2];
-    let v3 = bank[f + 3];
-    let v4 = bank[f + 4];
-    let v5 = bank[f + 5];
-    let v6 = bank[f + 6];
-    let v7 = bank[f + 7];
-    bank[a] = v0;
-    bank[a + 1] = v1;
-    bank[a + 2] = v2;
-    bank[a + 3] = v3;
-    bank[a + 4] = v4;
-    bank[a + 5] = v5;
-    bank[a + 6] = v6;
-    bank[a + 7] = v7;
+    let v = eight_at(bank, f);
+    put_eight(bank, a, v);
 }
 
 // MOVEs of n registers one by one. Those above are done first, since no source stands above its target.
@@ -69,7 +83,8 @@ fn fill(bank: &mut [i16; 128], a: usize, k: usize, place: usize)
     }
 }
 
-// The block that the bits w name; false if they name none. The MOVEs come first, since a SET may store to a source.
+// The block that the bits w name; false if they name none. The MOVEs come first, since a SET may store to a source. That
+// the place fits `ride_rest` shows, which counts to it.
 pub fn obey_block(w: usize, place: usize, bank: &mut [i16; 128]) -> bool
     requires { ⌜ place ≤ lineMax ⌝ }
     ensures { λ r. ⌜ Blocked w place (now (bank .entry)) (now (bank .exit)) r ⌝ }

@@ -30,7 +30,8 @@ pub fn word(x: u32) -> usize
 }
 
 // As far as a line's entries are of kind 0 and lead to a row below the limit. An entry that is the row's place and 64
-// stays without commands; where a situation leads to itself the row stays, so that the next load does not wait.
+// stays without commands; where a situation leads to itself the row stays, so that the next load does not wait. That the
+// row is one of the image's `ride_line` and `ride_both` show, from the first row on.
 pub fn glide(
     image: &[u32],
     limit: usize,
@@ -97,7 +98,8 @@ fn hop(e: usize, limit: usize, row: usize, place: usize, bank: &mut [i16; 128]) 
 }
 
 // Two lines in step from their beginning on, until one of them ends or has an entry that does not glide. Both entries
-// are loaded before either is taken, so that the loads overlap; a byte's column is found before its row is known.
+// are loaded before either is taken, so that the loads overlap; a byte's column is found before its row is known. That the
+// image has a first row `ride_both` shows.
 pub fn glide_two(
     image: &[u32],
     limit: usize,
