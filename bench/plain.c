@@ -745,14 +745,7 @@ static void start(rider *r, const uint8_t *table, size_t len, const uint8_t *lin
     apply_at(table, len, 5, 0, r->bank);
 }
 
-static inline void store(rider *r, const uint8_t *table, size_t len, uint32_t e, int16_t place) {
-    if (e < LISTED)
-        r->bank[e % CELLS] = place;
-    else
-        obey(table, len, e, place, r->bank);
-}
-
-/* The rest of a line, and what is told of it: with the tests of the proved loop. */
+/* The rest of a line, and what is told of it. */
 static uint8_t rest(rider *r, const uint8_t *table, size_t len, const uint32_t *image, uint8_t *answer,
                     int16_t places[8]) {
     const uint8_t *line = r->line;
@@ -761,13 +754,12 @@ static uint8_t rest(rider *r, const uint8_t *table, size_t len, const uint32_t *
         uint32_t e = image[row + line[i]];
         i++;
         if (e == row + IDLE) continue; /* the next load does not wait for this one */
-        if ((e & ROW) == row) {        /* nor here: the row stays as it is */
-            store(r, table, len, e, (int16_t)i);
-            continue;
-        }
-        if ((e & ROW) >= limit) return refuse(TABLE_FORM, answer, places);
-        store(r, table, len, e, (int16_t)i);
+        if (e < LISTED)
+            r->bank[e % CELLS] = (int16_t)i;
+        else
+            obey(table, len, e, (int16_t)i, r->bank);
         row = e & ROW;
+        if (row >= limit) return refuse(TABLE_FORM, answer, places);
     }
     return finish(table + image[limit + row / 256], r->bank, answer, places);
 }

@@ -30,8 +30,8 @@ pub fn word(x: u32) -> usize
 }
 
 // As far as a line's entries are of kind 0 and lead to a row below the limit. An entry that is the row's place and 64
-// stays without commands; where a situation leads to itself the row stays, so that the next load does not wait. That the
-// row is one of the image's `ride_line` and `ride_both` show, from the first row on.
+// stays without commands, and the next load does not wait for it; a byte's column is found before its row is known. That
+// the row is one of the image's `ride_line` and `ride_both` show, from the first row on.
 pub fn glide(
     image: &[u32],
     limit: usize,
@@ -47,18 +47,17 @@ pub fn glide(
     let mut place = from;
     while place < line.len() {
         let b = ground::wide(line[place]);
-        let e = word(image[row + b]);
+        let column = &image[b..];
+        let e = word(column[row]);
         if e != row + 64 {
             if 1073741824 <= e {
                 return Reach { place, row };
             }
             let next = e / 256 % 128 * 256;
-            if next != row {
-                if limit <= next {
-                    return Reach { place, row };
-                }
-                row = next;
+            if limit <= next {
+                return Reach { place, row };
             }
+            row = next;
             let v = ground::held(place + 1);
             bank[e % 128] = v;
         }
@@ -98,8 +97,7 @@ fn hop(e: usize, limit: usize, row: usize, place: usize, bank: &mut [i16; 128]) 
 }
 
 // Two lines in step from their beginning on, until one of them ends or has an entry that does not glide. Both entries
-// are loaded before either is taken, so that the loads overlap; a byte's column is found before its row is known. That the
-// image has a first row `ride_both` shows.
+// are loaded before either is taken, so that the loads overlap. That the image has a first row `ride_both` shows.
 pub fn glide_two(
     image: &[u32],
     limit: usize,

@@ -9,7 +9,7 @@ use mir.Syntax.{w16}
 use mir.ValLaws.{toZ-ofZ}
 use Rattle.ground.proofs.Places.{place-fits}
 use Rattle.ride.specs.Need.{Reached}
-use Rattle.ride.proofs.Riding.{in-image, went-on, went-round, reached-none, reached-stay, reached-one}
+use Rattle.ride.proofs.Riding.{in-image, in-column, column-at, reached-none, reached-stay, reached-one}
 use borrow.Author.Needs.{needs}
 use Rattle.ride.proofs.gliding.glide.Statement.{statement}
 use Rattle.ride.proofs.gliding.glide.Tie as tie
@@ -29,23 +29,32 @@ shared-slice-read-wide c = search needs
 wide-requires : tie.Need-wide-requires Inv-loop μ-loop
 wide-requires c κs = search needs
 
-add-word : tie.Need-add-word Inv-loop μ-loop
-add-word c = omega (arith, c .before .before .before .loop .inv .standing .small, c .wide .ensures, c .before .shared-slice-known3 .given (c .before .before .before .loop .place))
+mul-column : tie.Need-mul-column Inv-loop μ-loop
+mul-column c = omega (arith, c .wide .ensures, c .before .shared-slice-known3 .given (c .before .before .before .loop .place))
+
+sub-column : tie.Need-sub-column Inv-loop μ-loop
+sub-column c = let h = in-image (c .before .before .before .loop .inv .standing) (c .wide .result) (omega (arith, c .wide .ensures, c .before .shared-slice-known3 .given (c .before .before .before .loop .place))) in omega arith
+
+part-column-start : tie.Need-part-column-start Inv-loop μ-loop
+part-column-start c = sub-column c
+
+part-column-end : tie.Need-part-column-end Inv-loop μ-loop
+part-column-end c = search needs
 
 mul-word : tie.Need-mul-word Inv-loop μ-loop
-mul-word c = omega (arith, c .before .before .before .loop .inv .standing .small, c .wide .ensures, c .before .shared-slice-known3 .given (c .before .before .before .loop .place))
+mul-word c = omega (arith, c .before .before .before .before .loop .inv .standing .small)
 
 shared-slice-read-word : tie.Need-shared-slice-read-word Inv-loop μ-loop
-shared-slice-read-word c = in-image (c .before .before .before .before .loop .inv .standing) (c .before .wide .result) (omega (arith, c .before .wide .ensures, c .before .before .shared-slice-known3 .given (c .before .before .before .before .loop .place)))
+shared-slice-read-word c = in-column (c .before .before .before .before .before .loop .inv .standing) (c .before .before .wide .result) (omega (arith, c .before .before .wide .ensures, c .before .before .before .shared-slice-known3 .given (c .before .before .before .before .before .loop .place)))
 
 word-requires : tie.Need-word-requires Inv-loop μ-loop
 word-requires c κs = search needs
 
 add-if1 : tie.Need-add-if1 Inv-loop μ-loop
-add-if1 c = omega (arith, c .before .before .before .before .before .loop .inv .standing .small)
+add-if1 c = omega (arith, c .before .before .before .before .before .before .loop .inv .standing .small)
 
 returns : tie.Need-returns Inv-loop μ-loop
-returns c = c .before .before .before .before .before .before .before .loop .inv
+returns c = c .before .before .before .before .before .before .before .before .loop .inv
 
 mul-next : tie.Need-mul-next Inv-loop μ-loop
 mul-next c = omega arith
@@ -54,10 +63,10 @@ returns-2 : tie.Need-returns-2 Inv-loop μ-loop
 returns-2 c = c .before .before .before .before .before .before .before .before .before .loop .inv
 
 add-held : tie.Need-add-held Inv-loop μ-loop
-add-held c = omega (arith, c .before .before .before .before .before .before .before .before .before .before .before .pre .short)
+add-held c = omega (arith, c .before .before .before .before .before .before .before .before .loop-test .taken, c .before .before .before .before .before .before .before .before .before .before .before .before .pre .short)
 
 held-requires : tie.Need-held-requires Inv-loop μ-loop
-held-requires c κs = omega (arith, c .before .before .before .before .before .before .before .before .before .before .before .pre .short)
+held-requires c κs = omega (arith, c .before .before .before .before .before .before .before .before .loop-test .taken, c .before .before .before .before .before .before .before .before .before .before .before .before .pre .short)
 
 mul-v : tie.Need-mul-v Inv-loop μ-loop
 mul-v c = omega arith
@@ -66,7 +75,7 @@ element-set-from-v : tie.Need-element-set-from-v Inv-loop μ-loop
 element-set-from-v c = omega arith
 
 add-place : tie.Need-add-place Inv-loop μ-loop
-add-place c = omega (arith, c .before .before .before .before .before .before .before .before .before .pre .short)
+add-place c = omega (arith, c .before .before .before .before .before .before .loop-test .taken, c .before .before .before .before .before .before .before .before .before .before .pre .short)
 
 loop-less : tie.Need-loop-less Inv-loop μ-loop
 loop-less c = omega arith
@@ -75,12 +84,11 @@ loop-again : tie.Need-loop-again Inv-loop μ-loop
 loop-again c =
     ⊎-elim
     (λ w.
-    let next = c .before .before .before .before .before .before .loop .place + 1 in
-    let g = ⊎-elim (λ v. went-on (c .before .before .before .before .before .before .loop .inv .standing) (c .before .word .result) (v .1 .left) (v .2)) (λ v. went-round (c .before .before .before .before .before .before .loop .inv .standing) (c .before .word .result) (v .0 .left) (v .1)) (w .2 .came) in
+    let next = c .before .before .before .before .before .before .before .loop .place + 1 in
     rw (w .5)
-    (reached-one (c .before .before .before .before .before .before .loop .inv) (c .before .word .result) (c .before .before .before .before .before .loop-test .taken) (c .before .before .before .wide .ensures) (c .before .word .ensures) (g .0) (g .1) (w .1 .left)
-    (w .4 ∙ rw (w .3 .ensures, toZ-ofZ w16 (pos next) (place-fits next (omega (arith, c .before .before .before .before .before .before .before .before .before .pre .short)))) refl)))
-    (λ w. rw (w .1, w .2) (reached-stay (c .before .before .before .before .before .before .loop .inv) (c .before .word .result) (c .before .before .before .before .before .loop-test .taken) (c .before .before .before .wide .ensures) (c .before .word .ensures) (w .0 .left)))
+    (reached-one (c .before .before .before .before .before .before .before .loop .inv) (c .before .word .result) (c .before .before .before .before .before .before .loop-test .taken) (c .before .before .before .before .wide .ensures) (c .before .word .ensures ∙ column-at (c .before .before .before .before .before .before .before .loop .inv .standing) (c .before .before .before .before .wide .result) (omega (arith, c .before .before .before .before .wide .ensures, c .before .before .before .before .before .shared-slice-known3 .given (c .before .before .before .before .before .before .before .loop .place)))) refl (w .2 .left) (w .1 .left)
+    (w .4 ∙ rw (w .3 .ensures, toZ-ofZ w16 (pos next) (place-fits next (omega (arith, c .before .before .before .before .before .before .before .before .before .before .pre .short)))) refl)))
+    (λ w. rw (w .1, w .2) (reached-stay (c .before .before .before .before .before .before .before .loop .inv) (c .before .word .result) (c .before .before .before .before .before .before .loop-test .taken) (c .before .before .before .before .wide .ensures) (c .before .word .ensures ∙ column-at (c .before .before .before .before .before .before .before .loop .inv .standing) (c .before .before .before .before .wide .result) (omega (arith, c .before .before .before .before .wide .ensures, c .before .before .before .before .before .shared-slice-known3 .given (c .before .before .before .before .before .before .before .loop .place)))) (w .0 .left)))
     (c .if1 .came)
 
 returns-3 : tie.Need-returns-3 Inv-loop μ-loop
@@ -95,7 +103,10 @@ glide-spec =
     loop-holds
     shared-slice-read-wide
     wide-requires
-    add-word
+    mul-column
+    sub-column
+    part-column-start
+    part-column-end
     mul-word
     shared-slice-read-word
     word-requires
