@@ -9,11 +9,6 @@
 extern "C" {
 #endif
 
-/* Two lines in step over an image: each told as cv_ride tells it. */
-void cv_ride_two(const uint8_t *table, size_t table_len, const uint32_t *image, size_t image_len, const uint8_t *line,
-                 size_t line_len, const uint8_t *other, size_t other_len, uint8_t codes[2], uint8_t answers[2],
-                 int16_t first[8], int16_t second[8]);
-
 /* re2c's functions: 1 and the places, or 0. */
 int re2c_feed(const unsigned char *line, int32_t *places);
 int re2c_noise(const unsigned char *line, int32_t *places);

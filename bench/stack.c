@@ -45,6 +45,12 @@ static void do_ride(void) {
     uint8_t answer;
     code = cv_ride(table, table_len, image, CV_IMAGE_MAX, line, line_len, &answer, places);
 }
+static void do_ride_two(void) {
+    uint8_t codes[2], answers[2];
+    int16_t second[8];
+    cv_ride_two(table, table_len, image, CV_IMAGE_MAX, line, line_len, line, line_len, codes, answers, places, second);
+    code = codes[0];
+}
 static void do_field(void) {
     code = cv_field_code(line, line_len, 0, 1);
     cv_field(line, line_len, 0, 1, part, sizeof part);
@@ -54,7 +60,7 @@ static void do_reading(void) {
     cv_reading(line, line_len, places, 0, 1, part, sizeof part);
 }
 
-enum { PATTERN, COUNT, BUILD, LOAD, RUN, MOUNT, RIDE, FIELD, READING, CALLS };
+enum { PATTERN, COUNT, BUILD, LOAD, RUN, MOUNT, RIDE, RIDE_TWO, FIELD, READING, CALLS };
 static struct {
     const char *name;
     void (*call)(void);
@@ -63,7 +69,8 @@ static struct {
 } calls[CALLS] = {
     {"cv_pattern", do_pattern, 0, 0, NULL}, {"cv_count", do_count, 0, 0, NULL}, {"cv_build", do_build, 0, 0, NULL},
     {"cv_load", do_load, 0, 0, NULL},       {"cv_run", do_run, 0, 0, NULL},     {"cv_mount", do_mount, 0, 0, NULL},
-    {"cv_ride", do_ride, 0, 0, NULL},       {"cv_field", do_field, 0, 0, NULL}, {"cv_reading", do_reading, 0, 0, NULL},
+    {"cv_ride", do_ride, 0, 0, NULL},       {"cv_ride_two", do_ride_two, 0, 0, NULL},
+    {"cv_field", do_field, 0, 0, NULL},     {"cv_reading", do_reading, 0, 0, NULL},
 };
 
 /* ---- measuring ---- */
@@ -110,7 +117,10 @@ static void try_table(const char *with) {
     measure(LOAD, with);
     measure(RUN, with);
     measure(MOUNT, with);
-    if (code == CV_OK) measure(RIDE, with);
+    if (code == CV_OK) {
+        measure(RIDE, with);
+        measure(RIDE_TWO, with);
+    }
     measure(FIELD, with);
     measure(READING, with);
 }
