@@ -8,6 +8,12 @@ ghost use Rattle.ride.specs.Need.{Glidable, Reached, Hopped};
 // A row that no situation has.
 pub const ASTRAY: usize = 32768;
 
+// The least entry that is not of kind 0.
+pub const LISTED: usize = 1073741824;
+
+// The cell of no command: an entry that stays so is its row and this.
+pub const IDLE: usize = 64;
+
 // Where a line got to: the bytes taken, and the row of its situation.
 pub struct Reach {
     pub place: usize,
@@ -16,10 +22,8 @@ pub struct Reach {
 
 // Where two lines got to.
 pub struct Reaches {
-    pub place: usize,
-    pub row: usize,
-    pub place2: usize,
-    pub row2: usize,
+    pub first: Reach,
+    pub second: Reach,
 }
 
 // An entry of an image as an index.
@@ -49,8 +53,8 @@ pub fn glide(
         let b = ground::wide(line[place]);
         let column = &image[b..];
         let e = word(column[row]);
-        if e != row + 64 {
-            if 1073741824 <= e {
+        if e != row + IDLE {
+            if LISTED <= e {
                 return Reach { place, row };
             }
             let next = e / 256 % 128 * 256;
@@ -81,10 +85,10 @@ fn hop(e: usize, limit: usize, row: usize, place: usize, bank: &mut [i16; 128]) 
     requires { ⌜ (row < 32768) × (place ≤ lineMax) ⌝ }
     ensures { λ r. ⌜ Hopped e limit row place (now (bank .entry)) r (now (bank .exit)) ⌝ }
 {
-    if e == row + 64 {
+    if e == row + IDLE {
         return row;
     }
-    if 1073741824 <= e {
+    if LISTED <= e {
         return ASTRAY;
     }
     let next = e / 256 % 128 * 256;
@@ -94,6 +98,18 @@ fn hop(e: usize, limit: usize, row: usize, place: usize, bank: &mut [i16; 128]) 
     let v = ground::held(place);
     bank[e % 128] = v;
     next
+}
+
+// Where two lines got to, of their places and rows.
+fn both_at(place: usize, row: usize, place2: usize, row2: usize) -> Reaches
+    ensures { λ r. ⌜ (r .first ≡ record { place = place; row = row }) × (r .second ≡ record { place = place2; row = row2 }) ⌝ }
+{
+    let first = Reach { place, row };
+    let second = Reach {
+        place: place2,
+        row: row2,
+    };
+    Reaches { first, second }
 }
 
 // Two lines in step from their beginning on, until one of them ends or has an entry that does not glide. Both entries
@@ -107,7 +123,7 @@ pub fn glide_two(
     beside: &mut [i16; 128],
 ) -> Reaches
     requires { ⌜ Glidable (now image) limit (now line) 0 0 × Glidable (now image) limit (now other) 0 0 ⌝ }
-    ensures { λ r. ⌜ Reached (now (image .entry)) (now (line .entry)) limit 0 0 (now (bank .entry)) (r .place) (r .row) (now (bank .exit)) × Reached (now (image .entry)) (now (other .entry)) limit 0 0 (now (beside .entry)) (r .place2) (r .row2) (now (beside .exit)) ⌝ }
+    ensures { λ r. ⌜ Reached (now (image .entry)) (now (line .entry)) limit 0 0 (now (bank .entry)) (r .first .place) (r .first .row) (now (bank .exit)) × Reached (now (image .entry)) (now (other .entry)) limit 0 0 (now (beside .entry)) (r .second .place) (r .second .row) (now (beside .exit)) ⌝ }
 {
     let until = least(line.len(), other.len());
     let mut row: usize = 0;
@@ -122,30 +138,15 @@ pub fn glide_two(
         let f = word(column2[row2]);
         let next = hop(e, limit, row, i + 1, bank);
         if next == ASTRAY {
-            return Reaches {
-                place: i,
-                row,
-                place2: i,
-                row2,
-            };
+            return both_at(i, row, i, row2);
         }
         row = next;
         let next2 = hop(f, limit, row2, i + 1, beside);
         if next2 == ASTRAY {
-            return Reaches {
-                place: i + 1,
-                row,
-                place2: i,
-                row2,
-            };
+            return both_at(i + 1, row, i, row2);
         }
         row2 = next2;
         i += 1;
     }
-    Reaches {
-        place: i,
-        row,
-        place2: i,
-        row2,
-    }
+    both_at(i, row, i, row2)
 }

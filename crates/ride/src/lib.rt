@@ -15,6 +15,8 @@ use answers::NO_MATCH;
 use answers::TABLE_FORM;
 use card::Order;
 use gliding::ASTRAY;
+use gliding::IDLE;
+use gliding::LISTED;
 use gliding::word;
 use run::Ran;
 use run::lists;
@@ -59,7 +61,7 @@ fn obey(s: &[u8], e: usize, place: usize, bank: &mut [i16; 128]) -> bool
     requires { ⌜ (1073741824 ≤ e) × (place ≤ lineMax) ⌝ }
     ensures { λ r. ⌜ Obeyed (now (s .entry)) e place (now (bank .entry)) (now (bank .exit)) r ⌝ }
 {
-    let kind = e / 1073741824;
+    let kind = e / LISTED;
     let at = e % 256 + 256 * (e / 32768 % 32768);
     if kind == 1 {
         return blocks::obey_block(at, place, bank);
@@ -115,7 +117,7 @@ fn ride_rest(
         let b = ground::wide(line[i]);
         let e = word(image[row + b]);
         i += 1;
-        if e != row + 64 {
+        if e != row + IDLE {
             let next = e / 256 % 128 * 256;
             if next != row {
                 if limit <= next {
@@ -123,7 +125,7 @@ fn ride_rest(
                 }
                 row = next;
             }
-            if e < 1073741824 {
+            if e < LISTED {
                 let v = ground::held(i);
                 bank[e % 128] = v;
             } else {
@@ -193,8 +195,10 @@ fn ride_both(s: &[u8], image: &[u32], count: usize, line: &[u8], other: &[u8]) -
     set_list(s, 5, 0, &mut beside);
     let limit = 256 * count;
     let g = gliding::glide_two(image, limit, line, other, &mut bank, &mut beside);
-    let x = gliding::glide(image, limit, line, g.place, g.row, &mut bank);
-    let y = gliding::glide(image, limit, other, g.place2, g.row2, &mut beside);
+    let a = g.first;
+    let b = g.second;
+    let x = gliding::glide(image, limit, line, a.place, a.row, &mut bank);
+    let y = gliding::glide(image, limit, other, b.place, b.row, &mut beside);
     if x.place + y.place < line.len() + other.len() {
         let first = finish(s, image, count, line, x.place, x.row, &mut bank);
         let second = finish(s, image, count, other, y.place, y.row, &mut beside);

@@ -80,8 +80,13 @@ add-hop c = omega (arith, c .before .before .before .before .before .before .bef
 hop-requires : tie.Need-hop-requires Inv-loop μ-loop
 hop-requires c κs = (c .before .before .before .before .before .before .before .before .before .before .before .before .loop .inv .0 .standing .small, omega (arith, c .before .before .before .before .before .before .before .before .before .before .before .before .before .least .ensures, c .before .before .before .before .before .before .before .before .before .before .before .loop-test .taken, c .before .before .before .before .before .before .before .before .before .before .before .before .before .before .before .before .before .pre .0 .short))
 
+both-at-requires : tie.Need-both-at-requires Inv-loop μ-loop
+both-at-requires c κs = search needs
+
 returns : tie.Need-returns Inv-loop μ-loop
-returns c = (rw (left-alone (c .before .before .before .before .before .before .before .before .before .before .before .before .before .before .loop .inv .0 .standing .small) (c .before .hop .ensures) (c .if1 .taken)) (c .before .before .before .before .before .before .before .before .before .before .before .before .before .before .loop .inv .0), c .before .before .before .before .before .before .before .before .before .before .before .before .before .before .loop .inv .1)
+returns c =
+    rw (c .both-at .ensures .0, c .both-at .ensures .1, left-alone (c .before .before .before .before .before .before .before .before .before .before .before .before .before .before .before .loop .inv .0 .standing .small) (c .before .before .hop .ensures) (c .before .if1 .taken))
+    (c .before .before .before .before .before .before .before .before .before .before .before .before .before .before .before .loop .inv)
 
 add-hop-2 : tie.Need-add-hop-2 Inv-loop μ-loop
 add-hop-2 c = omega (arith, c .before .before .before .before .before .before .before .before .before .before .before .before .before .before .before .least .ensures, c .before .before .before .before .before .before .before .before .before .before .before .before .before .loop-test .taken, c .before .before .before .before .before .before .before .before .before .before .before .before .before .before .before .before .before .before .before .pre .0 .short)
@@ -89,11 +94,16 @@ add-hop-2 c = omega (arith, c .before .before .before .before .before .before .b
 hop-requires-2 : tie.Need-hop-requires-2 Inv-loop μ-loop
 hop-requires-2 c κs = (c .before .before .before .before .before .before .before .before .before .before .before .before .before .before .before .loop .inv .1 .standing .small, omega (arith, c .before .before .before .before .before .before .before .before .before .before .before .before .before .before .before .before .least .ensures, c .before .before .before .before .before .before .before .before .before .before .before .before .before .before .loop-test .taken, c .before .before .before .before .before .before .before .before .before .before .before .before .before .before .before .before .before .before .before .before .pre .0 .short))
 
-add-t36 : tie.Need-add-t36 Inv-loop μ-loop
-add-t36 c = omega (arith, c .before .before .before .before .before .before .before .before .before .before .before .before .before .before .before .before .before .before .least .ensures, c .before .before .before .before .before .before .before .before .before .before .before .before .before .before .before .before .loop-test .taken, c .before .before .before .before .before .before .before .before .before .before .before .before .before .before .before .before .before .before .before .before .before .before .pre .0 .short)
+add-both-at : tie.Need-add-both-at Inv-loop μ-loop
+add-both-at c = omega (arith, c .before .before .before .before .before .before .before .before .before .before .before .before .before .before .before .before .before .before .least .ensures, c .before .before .before .before .before .before .before .before .before .before .before .before .before .before .before .before .loop-test .taken, c .before .before .before .before .before .before .before .before .before .before .before .before .before .before .before .before .before .before .before .before .before .before .pre .0 .short)
+
+both-at-requires-2 : tie.Need-both-at-requires-2 Inv-loop μ-loop
+both-at-requires-2 c κs = search needs
 
 returns-2 : tie.Need-returns-2 Inv-loop μ-loop
-returns-2 c = (reached-hop (c .before .before .before .before .before .before .before .before .before .before .before .before .before .before .before .before .before .loop .inv .0) (c .before .before .before .before .before .before .before .before .before .before .before .word .result) (omega (arith, c .before .before .before .before .before .before .before .before .before .before .before .before .before .before .before .before .before .before .least .ensures, c .before .before .before .before .before .before .before .before .before .before .before .before .before .before .before .before .loop-test .taken)) (c .before .before .before .before .before .before .before .before .before .before .before .before .before .before .wide .ensures) (c .before .before .before .before .before .before .before .before .before .before .before .word .ensures ∙ column-at (c .before .before .before .before .before .before .before .before .before .before .before .before .before .before .before .before .before .loop .inv .0 .standing) (c .before .before .before .before .before .before .before .before .before .before .before .before .before .before .wide .result) (omega (arith, c .before .before .before .before .before .before .before .before .before .before .before .before .before .before .wide .ensures, c .before .before .before .before .before .before .before .before .before .before .before .before .before .before .before .shared-slice-known4 .given (c .before .before .before .before .before .before .before .before .before .before .before .before .before .before .before .before .before .loop .i)))) (c .before .before .before .before .hop .ensures) (c .before .before .before .if1 .left), rw (left-alone (c .before .before .before .before .before .before .before .before .before .before .before .before .before .before .before .before .before .loop .inv .1 .standing .small) (c .before .hop2 .ensures) (c .if2 .taken)) (c .before .before .before .before .before .before .before .before .before .before .before .before .before .before .before .before .before .loop .inv .1))
+returns-2 c =
+    rw (c .both-at2 .ensures .0, c .both-at2 .ensures .1, left-alone (c .before .before .before .before .before .before .before .before .before .before .before .before .before .before .before .before .before .before .loop .inv .1 .standing .small) (c .before .before .hop2 .ensures) (c .before .if2 .taken))
+    (reached-hop (c .before .before .before .before .before .before .before .before .before .before .before .before .before .before .before .before .before .before .loop .inv .0) (c .before .before .before .before .before .before .before .before .before .before .before .before .word .result) (omega (arith, c .before .before .before .before .before .before .before .before .before .before .before .before .before .before .before .before .before .before .before .least .ensures, c .before .before .before .before .before .before .before .before .before .before .before .before .before .before .before .before .before .loop-test .taken)) (c .before .before .before .before .before .before .before .before .before .before .before .before .before .before .before .wide .ensures) (c .before .before .before .before .before .before .before .before .before .before .before .before .word .ensures ∙ column-at (c .before .before .before .before .before .before .before .before .before .before .before .before .before .before .before .before .before .before .loop .inv .0 .standing) (c .before .before .before .before .before .before .before .before .before .before .before .before .before .before .before .wide .result) (omega (arith, c .before .before .before .before .before .before .before .before .before .before .before .before .before .before .before .wide .ensures, c .before .before .before .before .before .before .before .before .before .before .before .before .before .before .before .before .shared-slice-known4 .given (c .before .before .before .before .before .before .before .before .before .before .before .before .before .before .before .before .before .before .loop .i)))) (c .before .before .before .before .before .hop .ensures) (c .before .before .before .before .if1 .left), c .before .before .before .before .before .before .before .before .before .before .before .before .before .before .before .before .before .before .loop .inv .1)
 
 add-i : tie.Need-add-i Inv-loop μ-loop
 add-i c = omega (arith, c .before .before .before .before .before .before .before .before .before .before .before .before .before .before .before .before .before .before .least .ensures, c .before .before .before .before .before .before .before .before .before .before .before .before .before .before .before .before .loop-test .taken, c .before .before .before .before .before .before .before .before .before .before .before .before .before .before .before .before .before .before .before .before .before .before .pre .0 .short)
@@ -107,8 +117,11 @@ loop-again c = (
   reached-hop (c .before .before .before .before .before .before .before .before .before .before .before .before .before .before .before .before .before .loop .inv .1) (c .before .before .before .before .before .before .word2 .result) (omega (arith, c .before .before .before .before .before .before .before .before .before .before .before .before .before .before .before .before .before .before .least .ensures, c .before .before .before .before .before .before .before .before .before .before .before .before .before .before .before .before .loop-test .taken)) (c .before .before .before .before .before .before .before .before .before .wide2 .ensures) (c .before .before .before .before .before .before .word2 .ensures ∙ column-at (c .before .before .before .before .before .before .before .before .before .before .before .before .before .before .before .before .before .loop .inv .1 .standing) (c .before .before .before .before .before .before .before .before .before .wide2 .result) (omega (arith, c .before .before .before .before .before .before .before .before .before .wide2 .ensures, c .before .before .before .before .before .before .before .before .before .before .shared-slice-known6 .given (c .before .before .before .before .before .before .before .before .before .before .before .before .before .before .before .before .before .loop .i)))) (c .before .hop2 .ensures) (c .if2 .left),
 )
 
+both-at-requires-3 : tie.Need-both-at-requires-3 Inv-loop μ-loop
+both-at-requires-3 c κs = search needs
+
 returns-3 : tie.Need-returns-3 Inv-loop μ-loop
-returns-3 c = c .before .loop .inv
+returns-3 c = rw (c .both-at3 .ensures .0, c .both-at3 .ensures .1) (c .before .before .loop .inv)
 
 pub glide-two-spec : {M : Type 1} → statement M
 glide-two-spec =
@@ -138,12 +151,15 @@ glide-two-spec =
     word-requires-2
     add-hop
     hop-requires
+    both-at-requires
     returns
     add-hop-2
     hop-requires-2
-    add-t36
+    add-both-at
+    both-at-requires-2
     returns-2
     add-i
     loop-less
     loop-again
+    both-at-requires-3
     returns-3)
