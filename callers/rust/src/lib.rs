@@ -298,12 +298,12 @@ impl Mounted {
     /// ```
     /// # use chorvugdan::{LineError, Pattern, Tag};
     /// let mounted = Pattern::new("a*@0b*")?.build()?.mount();
-    /// let (first, second) = mounted.ride_two(b"aab", b"ba");
+    /// let (first, second) = mounted.read_two(b"aab", b"ba");
     /// assert_eq!(first?.place(Tag::T0), Some(2));
     /// assert_eq!(second, Err(LineError::NoMatch));
     /// # Ok::<(), chorvugdan::Error>(())
     /// ```
-    pub fn ride_two<'l, 'o>(
+    pub fn read_two<'l, 'o>(
         &self,
         line: &'l [u8],
         other: &'o [u8],

@@ -64,10 +64,10 @@ fn two_lines() {
     let mounted = table("a*@0b*").mount();
     for line in lines {
         for other in lines {
-            assert_eq!(mounted.ride_two(line, other), (mounted.read(line), mounted.read(other)));
+            assert_eq!(mounted.read_two(line, other), (mounted.read(line), mounted.read(other)));
         }
     }
-    assert_eq!(mounted.ride_two(&long, b"aab").0, Err(LineError::Long));
+    assert_eq!(mounted.read_two(&long, b"aab").0, Err(LineError::Long));
 }
 
 #[test]
