@@ -1,3 +1,4 @@
+#![tactic(auto)]
 ghost use Rattle.std.specs.Prelude.{◌≡◌, [], ◌∷◌, ◌++◌, map, ◌+◌, ◌-◌, ◌*◌, ◌<◌, ◌≤◌, length, replicate};
 ghost use Rattle.ground.specs.Lists.{each};
 ghost use Rattle.paths.specs.Equal.{same_list};
@@ -21,14 +22,14 @@ use explore::Closing;
 // ---- commands
 
 // A SET, or a MOVE from a register.
-#[derive(Drop)]
+#[derive(Clone, Copy)]
 pub struct Order {
     pub set: bool,
     pub to: u8,
     pub from: u8,
 }
 
-#[derive(Drop)]
+#[derive(Clone, Copy)]
 pub struct Orders {
     pub n: usize,
     pub list: [Order; 64],
@@ -153,7 +154,7 @@ fn emit_orders(out: &mut [u8], at: usize, c: Orders) -> usize
 // ---- rows
 
 // What a byte does: the number of the next situation, and the commands.
-#[derive(Drop)]
+#[derive(Clone, Copy)]
 pub struct Deed {
     pub next: u8,
     pub orders: Orders,
@@ -202,7 +203,7 @@ fn byte_deed(file: &[u8], offs: &[usize], work: &[u8], s: &[u8], count: usize, b
 }
 
 // The row that is open: the next byte of the output, the row's first byte, and what its bytes do.
-#[derive(Drop)]
+#[derive(Clone, Copy)]
 pub struct Open {
     pub at: usize,
     pub lo: u8,
@@ -275,7 +276,7 @@ fn emit_rows(
 // ---- situations
 
 // The answer of the first END of a list, and its registers; all 255 if there is none.
-#[derive(Drop)]
+#[derive(Clone, Copy)]
 pub struct Ending {
     pub answer: u8,
     pub had: [u8; 8],
@@ -431,7 +432,7 @@ fn emit_table(
 // ---- the whole build
 
 // The answer; and where it is 0 the table's length, its situations and its registers.
-#[derive(Drop)]
+#[derive(Clone, Copy)]
 pub struct Built {
     pub code: u8,
     pub length: usize,

@@ -6,14 +6,14 @@ ghost use Rattle.card.specs.Form.{head_at, field_ok, fields_ok, kind_fault, sit_
 ghost use Rattle.card.specs.FormOk.{FormOk};
 
 // What the HEAD says.
-#[derive(Drop)]
+#[derive(Clone, Copy)]
 pub struct Head {
     pub tags: usize,
     pub regs: usize,
     pub sits: usize,
 }
 
-#[derive(Drop)]
+#[derive(Clone, Copy)]
 pub enum HeadItem {
     Counts(Head),
     Wrong(u8),
@@ -21,7 +21,7 @@ pub enum HeadItem {
 
 // Where a pass stands: the place; how many situations have begun; the byte that the next row starts with, 256 after the
 // last; and the least target that the next command may have.
-#[derive(Drop)]
+#[derive(Clone, Copy)]
 pub struct Cursor {
     pub at: usize,
     pub begun: usize,
@@ -30,13 +30,13 @@ pub struct Cursor {
 }
 
 // An item takes the cursor on, or has a fault: its kind and the item's offset.
-#[derive(Drop)]
+#[derive(Clone, Copy)]
 pub enum Went {
     On(Cursor),
     Bad(u8, usize),
 }
 
-#[derive(Drop)]
+#[derive(Clone, Copy)]
 pub enum Verdict {
     Fine,
     Fault(u8, usize),

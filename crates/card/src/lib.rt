@@ -1,4 +1,5 @@
 // The table file: its items read at a place.
+#![tactic(auto)]
 pub mod form;
 
 ghost use Rattle.std.specs.Prelude.{◌≡◌, ◌≤◌, get_or};
@@ -6,7 +7,7 @@ ghost use Rattle.card.specs.Decode.{cmd_at, row_at, after_at, after_rows};
 ghost use Rattle.card.specs.Places.{noted};
 
 // The command at a place. Anything that is no whole legal command ends the list.
-#[derive(Drop)]
+#[derive(Clone, Copy)]
 pub enum Order {
     Move(usize, usize),
     Put(usize),
@@ -14,7 +15,7 @@ pub enum Order {
 }
 
 // The ROW at a place: the bytes from and to, and where it leads.
-#[derive(Drop)]
+#[derive(Clone, Copy)]
 pub enum RowItem {
     Leads(u8, u8, u8),
     Ends,

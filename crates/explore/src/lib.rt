@@ -1,3 +1,4 @@
+#![tactic(auto)]
 ghost use Rattle.std.specs.Prelude.{◌≡◌, false, ℕ, suc, ◌+◌, ◌*◌, ◌<◌, ◌≤◌, length, get_or, set};
 ghost use mathlib.Core.List.{[], ◌∷◌, foldl};
 ghost use Rattle.paths.specs.Situation.{bite, on_byte};
@@ -21,7 +22,7 @@ use answers::{REGISTERS, SITUATIONS};
 // What the public functions ask is shown by `build`: `Formed` comes from the reader of the file, `Kept` from the exploration.
 
 // One thread: the record that it stands on, and for each tag 255 or where its place comes from.
-#[derive(Drop)]
+#[derive(Clone, Copy)]
 pub struct Entry {
     pub on: u8,
     pub had: [u8; 8],
@@ -62,7 +63,7 @@ fn mark(marks: &mut [u8; 64], r: u8)
 }
 
 // What may follow a record with no byte: nothing, either of two records, or one with a tag.
-#[derive(Drop)]
+#[derive(Clone, Copy)]
 pub enum Onward {
     Stay,
     Both(u8, u8),
@@ -162,7 +163,7 @@ fn visit(
 }
 
 // Whether a record is an END, and its answer.
-#[derive(Drop)]
+#[derive(Clone, Copy)]
 pub enum Closing {
     Open,
     With(u8),
@@ -504,7 +505,7 @@ pub fn place(work: &[u8], count: usize, list: &[u8]) -> usize
 // ---- the exploration
 
 // 0 and the situations stored now; or 10, or 11.
-#[derive(Drop)]
+#[derive(Clone, Copy)]
 pub struct Tried {
     pub answer: u8,
     pub count: usize,

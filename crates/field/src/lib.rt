@@ -1,4 +1,5 @@
 // The part of a line between two places, and the number that goes with it.
+#![tactic(auto)]
 ghost use Rattle.std.specs.Prelude.{◌≡◌, length};
 ghost use Rattle.ground.specs.Place.{place_of};
 ghost use Rattle.field.specs.Field.{cut_of, code_of, Handed};
@@ -7,7 +8,7 @@ use answers::{FIELD_ABSENT, FIELD_BACK, FIELD_PAST, OK};
 use ground::Place;
 
 // What two places cut out of a line: the bytes from the first place to the second, or a refusal by its number.
-#[derive(Drop)]
+#[derive(Clone, Copy)]
 pub enum Cut {
     Part(usize, usize),
     Refused(u8),

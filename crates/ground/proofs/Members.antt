@@ -24,7 +24,7 @@ each_cases {A} g (x ∷ l) {y} m = by (λ k. each_cases g l k) (Memᴰ.append_ca
     by ih (inl k) = (x, Memᴰ.head refl, k)
     by ih (inr k) = let r = ih k in (r.0, Memᴰ.tail r.1, r.2)
 
-pub each_has : {A B : Type 0} (g : A → List B) {l : List A} {x : A} {y : B} → Memᴰ x l → Memᴰ y (g x) → Memᴰ y (each g l)
+pub each_has : {A B : Type 0} (g : A → List B) {x : A} {l : List A} {y : B} → Memᴰ x l → Memᴰ y (g x) → Memᴰ y (each g l)
 each_has g (Memᴰ.head {xs = xs} e) k = Memᴰ.append_left (each g xs) (rw e at k)
 each_has g (Memᴰ.tail {x = x} m) k = Memᴰ.append_right (g x) (each_has g m k)
 

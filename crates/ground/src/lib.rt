@@ -1,4 +1,5 @@
 // Small helpers that every crate shares.
+#![tactic(auto)]
 ghost use Rattle.std.specs.Prelude.{◌≡◌, ◌≤◌, pos};
 ghost use Rattle.ground.specs.Place.{place_max, place_of};
 
@@ -10,7 +11,7 @@ pub fn wide(x: u8) -> usize
 }
 
 // What a signed position says: a place as an index, or nothing.
-#[derive(Drop)]
+#[derive(Clone, Copy)]
 pub enum Place {
     At(usize),
     Absent,

@@ -9,14 +9,14 @@ use card::Order;
 use run::lists;
 
 // The kind of a list of commands, and where it stands or the numbers of its block.
-#[derive(Drop)]
+#[derive(Clone, Copy)]
 pub struct Sort {
     pub kind: u32,
     pub points: usize,
 }
 
 // How many commands of one stretch stand at a place, and the place after them.
-#[derive(Drop)]
+#[derive(Clone, Copy)]
 struct Stretch {
     many: usize,
     after: usize,

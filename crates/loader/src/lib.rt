@@ -1,4 +1,5 @@
 // The loader: is a table's form right, and can a line make it read an empty register?
+#![tactic(auto)]
 ghost use Rattle.std.specs.Prelude.{◌≡◌, ◌+◌, ◌≤◌, ◌<◌, ◌^◌, length};
 ghost use Rattle.card.specs.Decode.{table_at};
 ghost use Rattle.card.specs.Judged.{Judged};
@@ -10,7 +11,7 @@ use answers::{EMPTY_READ, TABLE_FORM};
 use card::{Order, RowItem};
 
 // A list of commands in short: the registers that it writes, those that it reads, and the place after it.
-#[derive(Drop)]
+#[derive(Clone, Copy)]
 pub struct Gist {
     pub writes: u64,
     pub reads: u64,
@@ -195,7 +196,7 @@ fn empty_read(s: &[u8], places: &[usize; 96]) -> bool
 }
 
 // A table judged: the code, and the places of its situations where the form is right.
-#[derive(Drop)]
+#[derive(Clone, Copy)]
 pub struct Judgement {
     pub code: u8,
     pub places: [usize; 96],

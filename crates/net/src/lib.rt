@@ -1,4 +1,5 @@
 // The automaton file: a reader of its items, the check of a whole file, the places of its records, and byte counts.
+#![tactic(auto)]
 ghost use Rattle.std.specs.Prelude.{◌≡◌, ℕ, ◌+◌, ◌*◌, ◌<◌, ◌≤◌, length, get_or, take, drop};
 ghost use Rattle.net.specs.Items.{head_of, body_at, item_at, net_of, code_of};
 ghost use Rattle.net.specs.Calls.{head_shown, shown, head_refusal_of, refusal_of, no_layout, LayoutOf};
@@ -7,14 +8,14 @@ ghost use Rattle.net.specs.Count.{count_below, between, bit_set, refuse, rec_cou
 use answers::{NET_EXTRA, NET_FIELD, NET_KIND, NET_SHORT, NOT_BYTES};
 
 // What reading the HEAD gives: tags and count, or the refusal.
-#[derive(Drop)]
+#[derive(Clone, Copy)]
 pub enum Head {
     Counts(u8, u8),
     Bad(u8),
 }
 
 // A record. A MASK's 32 bytes stay in the file, and the variant has their place.
-#[derive(Drop)]
+#[derive(Clone, Copy)]
 pub enum Item {
     Range(u8, u8, u8),
     Mask(usize, u8),
@@ -24,7 +25,7 @@ pub enum Item {
 }
 
 // The next record with the place after it, or the refusal that stops the reader.
-#[derive(Drop)]
+#[derive(Clone, Copy)]
 pub enum Next {
     Got(Item, usize),
     Refused(u8),
@@ -195,7 +196,7 @@ fn head_refusal(h: Head) -> u8
 }
 
 // A file's number, its tags, and the places of its records.
-#[derive(Drop)]
+#[derive(Clone, Copy)]
 pub struct Layout {
     pub code: u8,
     pub tags: u8,
@@ -298,7 +299,7 @@ fn range_count(lo: u8, hi: u8) -> u32
 }
 
 // The number of the answer, and the count, which is 0 unless that is 0.
-#[derive(Drop)]
+#[derive(Clone, Copy)]
 pub struct Count {
     pub code: u8,
     pub count: u32,

@@ -1,4 +1,5 @@
 // Pattern text to automaton.
+#![tactic(auto)]
 ghost use Rattle.std.specs.Prelude.{◌≡◌};
 ghost use Rattle.pattern.specs.Maker.{given, maker};
 
@@ -11,7 +12,7 @@ mod text;
 mod writing;
 
 // The answer of the pattern maker: its number, the place of a fault, and how many bytes were written.
-#[derive(Drop)]
+#[derive(Clone, Copy)]
 pub struct Made {
     pub code: u8,
     pub place: usize,

@@ -8,7 +8,7 @@ use crate::sets::{Scanned, bracket};
 use crate::text::{bars, look, repeats, stops_at};
 
 // How many records a pattern is, how many bytes they are, and its highest tag plus one.
-#[derive(Drop)]
+#[derive(Clone, Copy)]
 pub struct Sum {
     pub size: usize,
     pub width: usize,
@@ -16,7 +16,7 @@ pub struct Sum {
 }
 
 // What reading a part of a pattern finds.
-#[derive(Drop)]
+#[derive(Clone, Copy)]
 pub enum Read {
     // The place after it, and its measures.
     Ok { end: usize, sum: Sum },

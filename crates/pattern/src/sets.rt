@@ -6,7 +6,7 @@ ghost use Rattle.pattern.specs.Tests.{among};
 ghost use Rattle.pattern.specs.Standing.{word, told, stands, Sound, Stepped, items_of, raised, Marks, Listed, seen, boxed};
 
 // Where the text of a set stands, after its `[` or `[^`.
-#[derive(Drop)]
+#[derive(Clone, Copy)]
 pub enum Stand {
     Fresh,
     Ready,
@@ -21,7 +21,7 @@ pub enum Stand {
 }
 
 // How bytes stand to the words `:name:]` of the classes: all of one, the beginning of one, or neither.
-#[derive(Drop)]
+#[derive(Clone, Copy)]
 pub enum Word {
     Whole(u8),
     Begun,
@@ -29,14 +29,14 @@ pub enum Word {
 }
 
 // What reading a set finds: the place after it, or the place of the fault.
-#[derive(Drop)]
+#[derive(Clone, Copy)]
 pub enum Scanned {
     At(usize),
     Wrong(usize),
 }
 
 // The item that a byte completes: none, the bytes from one to another, or those of a class.
-#[derive(Drop)]
+#[derive(Clone, Copy)]
 pub enum Gain {
     Nothing,
     Span(u8, u8),

@@ -1,10 +1,11 @@
 // A reading holds its line and eight places, and answers for any two tags. The functions over the struct are thin: each takes it
 // apart and calls the covered function on the line and the places.
+#![tactic(auto)]
 ghost use Rattle.std.specs.Prelude.{◌≡◌};
 ghost use Rattle.field.specs.Field.{code_of, Handed};
 ghost use Rattle.reading.specs.Reading.{position_of, cut_by};
 
-#[derive(Drop)]
+#[derive(Clone, Copy)]
 pub struct Reading<'a> {
     pub line: &'a [u8],
     pub places: [i16; 8],

@@ -14,14 +14,14 @@ pub const LISTED: usize = 1073741824;
 pub const IDLE: usize = 64;
 
 // Where a line got to: the bytes taken, and the row of its situation.
-#[derive(Drop)]
+#[derive(Clone, Copy)]
 pub struct Reach {
     pub place: usize,
     pub row: usize,
 }
 
 // Where two lines got to.
-#[derive(Drop)]
+#[derive(Clone, Copy)]
 pub struct Reaches {
     pub first: Reach,
     pub second: Reach,

@@ -1,4 +1,5 @@
 // A load-once run: lines ride over the image that `image::mount` writes of a table.
+#![tactic(auto)]
 mod gliding;
 
 ghost use Rattle.std.specs.Prelude.{◌≡◌, ◌≤◌, ◌<◌, ◌*◌, length, get_or};
@@ -18,7 +19,7 @@ use run::{Ran, lists, refusal};
 const LINE_MAX: usize = 32767;
 
 // What is told of two lines.
-#[derive(Drop)]
+#[derive(Clone, Copy)]
 pub struct Two {
     pub first: Ran,
     pub second: Ran,

@@ -1,4 +1,5 @@
 // A run of a table over a line.
+#![tactic(auto)]
 pub mod lists;
 
 ghost use Rattle.std.specs.Prelude.{◌≡◌, map, ◌≤◌, ◌<◌, ◌+◌, length, get_or, take, drop};
@@ -15,7 +16,7 @@ use card::RowItem;
 const LINE_MAX: usize = 32767;
 
 // The result: the code, the answer or 255, and the eight places, -1 for absent.
-#[derive(Drop)]
+#[derive(Clone, Copy)]
 pub struct Ran {
     pub code: u8,
     pub answer: u8,
@@ -23,14 +24,14 @@ pub struct Ran {
 }
 
 // A byte's row: where it leads, and the place of its commands.
-#[derive(Drop)]
+#[derive(Clone, Copy)]
 pub struct Lead {
     pub next: u8,
     pub cmds: usize,
 }
 
 // Where a run stands.
-#[derive(Drop)]
+#[derive(Clone, Copy)]
 pub struct Stand {
     pub sit: u8,
     pub bank: Bank,

@@ -1,0 +1,19 @@
+-- `blocks::shift_few` meets its contract: the MOVEs above are done. Assumes nothing.
+use Prim.Native.Nat.{ℕ, ◌+◌, ◌-◌, ◌≤◌}
+use native.Mathlib.Omega.{arith}
+use borrow.Author.Rules.{rules}
+use mathlib.Core.Path.{◌≡◌, refl}
+use lib.ListN.{get_or}
+use lib.IntN.{pos}
+use mir.Val.{SFits}
+use mir.Syntax.{w16}
+use mir.ValLaws.{to_z-of_z}
+use Rattle.blocks.proofs.Blockwise.{shift_first, shift_next, shift_done}
+use Rattle.run.specs.Carry.{carry}
+use Rattle.image.specs.Image.{moves}
+use Rattle.blocks.proofs.shift_few.Given as goal
+abbrev pub invariant-loop-i : goal.invariant-loop-i
+invariant-loop-i l = (l.i ≤ l.n) × ((p : ℕ) → l.bank ≡ carry (moves (l.a + l.i) (l.f + l.i) (l.n - l.i)) p l.initial.bank l.initial.bank)
+
+abbrev pub decreases-loop-i : goal.decreases-loop-i
+decreases-loop-i l = l.i

@@ -1,0 +1,62 @@
+-- `build::commands_of` meets its contract. Assumes nothing.
+use mathlib.Core.Path.{◌≡◌, refl, ◌∙◌}
+use mathlib.Core.Logic.{⊎_elim}
+use mathlib.Core.List.{◌++◌, map}
+use Prim.Native.Nat.{◌≤◌, ◌<◌, ◌+◌, ◌-◌}
+use native.Mathlib.Omega.{arith}
+use lib.ListN.{length, drop, length-set}
+use Rattle.explore.specs.Keys.{keys_at}
+use Rattle.build.specs.Card.{commands}
+use Rattle.build.specs.Writing.{orders_of}
+use Rattle.build.proofs.Commands.{commands_start, commands_set, commands_move, commands_skip, commands_done}
+use Rattle.build.proofs.commands_of.Goals as goal
+
+pub loop-k-init : goal.loop-k-init
+loop-k-init c = (omega arith, (omega arith, (refl, commands_start _ refl _)))
+
+pub overflow_mul-from : goal.overflow_mul-from
+overflow_mul-from c = omega (arith, c.requires.0)
+
+pub overflow_add-from : goal.overflow_add-from
+overflow_add-from c = omega (arith, c.requires.0)
+
+pub bounds-regs-k : goal.bounds-regs-k
+bounds-regs-k c = omega (arith, c.requires.0, c.requires.1)
+
+pub overflow_cast-to : goal.overflow_cast-to
+overflow_cast-to c = omega (arith, c.requires.0)
+
+pub offset_bounds-list-m : goal.offset_bounds-list-m
+offset_bounds-list-m c = omega (arith, c.requires.0, c.loop-k.invariant.1.0)
+
+pub bounds-list-m : goal.bounds-list-m
+bounds-list-m c = omega (arith, c.requires.0, c.loop-k.invariant.1.0, c.loop-k.invariant.1.1.0)
+
+pub overflow_add-m : goal.overflow_add-m
+overflow_add-m c = omega (arith, c.requires.0, c.loop-k.invariant.1.0)
+
+pub offset_bounds-list-m-then-from-to : goal.offset_bounds-list-m-then-from-to
+offset_bounds-list-m-then-from-to c = omega (arith, c.requires.0, c.loop-k.invariant.1.0)
+
+pub bounds-list-m-then-from-to : goal.bounds-list-m-then-from-to
+bounds-list-m-then-from-to c = omega (arith, c.requires.0, c.loop-k.invariant.1.0, c.loop-k.invariant.1.1.0)
+
+pub overflow_add-m-then-from-to : goal.overflow_add-m-then-from-to
+overflow_add-m-then-from-to c = omega (arith, c.requires.0, c.loop-k.invariant.1.0)
+
+pub overflow_add-k : goal.overflow_add-k
+overflow_add-k c = omega (arith, c.requires.0)
+
+pub loop-k-preserved : goal.loop-k-preserved
+loop-k-preserved c =     let in_it : c.loop-k.m < length c.loop-k.list = omega (arith, c.requires.0, c.loop-k.invariant.1.0, c.loop-k.invariant.1.1.0) in (
+      omega arith,
+      ⊎_elim
+          (λ w. rw (w.1, w.2) (omega (arith, c.loop-k.invariant.1.0), (simp length-set c.loop-k.invariant.1.1.0, commands_set _ _ _ _ _ c.loop-k.k (omega arith) in_it c.loop-k.invariant.1.1.1 w.0.taken)))
+          (⊎_elim
+          (λ w. rw (w.2, w.3) (omega (arith, c.loop-k.invariant.1.0), (simp length-set c.loop-k.invariant.1.1.0, commands_move _ _ _ _ _ c.loop-k.k (omega arith) in_it c.loop-k.invariant.1.1.1 w.0.left w.1.taken)))
+          (λ w. rw (w.2, w.3) (omega (arith, c.loop-k.invariant.1.0), (c.loop-k.invariant.1.1.0, commands_skip _ _ _ _ _ c.loop-k.k (omega arith) in_it c.loop-k.invariant.1.1.1 w.0.left w.1.left))))
+          c.if-from-fresh.branch,
+    )
+
+pub returns : goal.returns
+returns c = (omega (arith, c.requires.0, c.loop-k.invariant.1.0), commands_done _ _ _ _ _ (omega arith) c.loop-k.invariant.1.1.1)

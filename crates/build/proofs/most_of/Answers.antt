@@ -1,0 +1,28 @@
+-- `build::most_of` meets its contract. Assumes nothing.
+use mathlib.Core.Path.{◌≡◌, ◌∙◌}
+use mathlib.Core.Logic.{⊎_elim}
+use Prim.Native.Nat.{◌≤◌, ◌-◌, max}
+use native.Mathlib.Omega.{arith}
+use Rattle.explore.specs.Slots.{slots}
+use Rattle.build.specs.Card.{most}
+use Rattle.build.proofs.Tables.{most_start, most_on, most_end, larger, smaller}
+use Rattle.build.proofs.most_of.Goals as goal
+
+pub loop-j-init : goal.loop-j-init
+loop-j-init c = (omega arith, most_start _ _)
+
+pub overflow_mul-k : goal.overflow_mul-k
+overflow_mul-k c = omega (arith, c.requires.count_in_bounds)
+
+pub overflow_add-k : goal.overflow_add-k
+overflow_add-k c = omega (arith, c.requires.count_in_bounds)
+
+pub bounds-work-j : goal.bounds-work-j
+bounds-work-j c = omega (arith, c.requires.count_in_bounds)
+
+pub loop-j-preserved : goal.loop-j-preserved
+loop-j-preserved c =     let on = most_on _ _ _ _ c.loop-j.j (omega arith) (c.requires.needs c.loop-j.j (omega arith)) c.loop-j.invariant.1 in
+    (omega arith, ⊎_elim (λ w. rw (w.1 ∙ larger _ _ w.0.taken) on) (λ w. rw (w.1 ∙ smaller _ _ w.0.left) on) c.if-m-k.branch)
+
+pub returns : goal.returns
+returns c = most_end _ _ _ c.loop-j.j (omega arith) c.loop-j.invariant.1

@@ -1,0 +1,51 @@
+-- `build::same_orders` meets its contract. Assumes nothing.
+use borrow.Author.Tests.{not_true, not_false}
+use mathlib.Core.Path.{◌≡◌, refl, sym, ◌∙◌}
+use Prim.Native.Nat.{◌≤◌, ◌-◌}
+use native.Mathlib.Omega.{arith}
+use borrow.Author.Rules.{rules}
+use lib.ListN.{drop}
+use Rattle.ground.proofs.Lists.{unmapped}
+use Rattle.paths.specs.Equal.{same_list}
+use Rattle.build.specs.Card.{same_cmd}
+use Rattle.build.specs.Writing.{orders_of}
+use Rattle.build.proofs.Commands.{orders_length, same_short, same_step, same_stop, same_end}
+use Rattle.build.proofs.same_orders.Goals as goal
+
+pub returns-then-n-m : goal.returns-then-n-m
+returns-then-n-m c =     let len = unmapped _ c.args.a.list 64 c.well_formed.0.1.1.1.0.1.0.1 in
+    let len2 = unmapped _ c.args.b.list 64 c.well_formed.1.0.1.1.1.0.1.0.1 in
+    same_short (orders_of c.args.a) (orders_of c.args.b) (λ e. c.if-n-m.true (sym (orders_length c.args.a (omega (arith, c.requires.0))) ∙ e ∙ orders_length c.args.b (omega (arith, c.requires.1))))
+
+pub loop-i-init : goal.loop-i-init
+loop-i-init c = (omega arith, (omega arith, refl))
+
+pub offset_bounds-a-i : goal.offset_bounds-a-i
+offset_bounds-a-i c = omega (arith, c.requires.0)
+
+pub bounds-a-i : goal.bounds-a-i
+bounds-a-i c = omega (arith, c.requires.0)
+
+pub offset_bounds-b-i : goal.offset_bounds-b-i
+offset_bounds-b-i c = omega (arith, c.requires.1, c.loop-i.invariant.1.0)
+
+pub bounds-b-i : goal.bounds-b-i
+bounds-b-i c = omega (arith, c.requires.1, c.loop-i.invariant.1.0)
+
+pub returns-then-not-same_order : goal.returns-then-not-same_order
+returns-then-not-same_order c =     let len = unmapped _ c.args.a.list 64 c.well_formed.0.1.1.1.0.1.0.1 in
+    let len2 = unmapped _ c.args.b.list 64 c.well_formed.1.0.1.1.1.0.1.0.1 in
+    same_stop c.args.a c.args.b (omega (arith, c.requires.0)) (omega (arith, c.requires.1)) c.loop-i.i (omega arith) (omega (arith, c.loop-i.invariant.1.0)) c.loop-i.invariant.1.1 (sym c.same_order.ensures ∙ not_true _ c.if-not-same_order.true-raw)
+
+pub overflow_add-i : goal.overflow_add-i
+overflow_add-i c = omega (arith, c.requires.0)
+
+pub loop-i-preserved : goal.loop-i-preserved
+loop-i-preserved c =     let len = unmapped _ c.args.a.list 64 c.well_formed.0.1.1.1.0.1.0.1 in
+    let len2 = unmapped _ c.args.b.list 64 c.well_formed.1.0.1.1.1.0.1.0.1 in
+    (omega arith, (c.loop-i.invariant.1.0, same_step c.args.a c.args.b (omega (arith, c.requires.0)) (omega (arith, c.requires.1)) c.loop-i.i (omega arith) (omega (arith, c.loop-i.invariant.1.0)) c.loop-i.invariant.1.1 (sym c.same_order.ensures ∙ not_false _ c.if-not-same_order.false-raw)))
+
+pub returns : goal.returns
+returns c =     let len = unmapped _ c.args.a.list 64 c.well_formed.0.1.1.1.0.1.0.1 in
+    let len2 = unmapped _ c.args.b.list 64 c.well_formed.1.0.1.1.1.0.1.0.1 in
+    same_end c.args.a c.args.b (omega (arith, c.requires.0)) (omega (arith, c.requires.1)) c.loop-i.i (omega arith) (omega (arith, c.loop-i.invariant.1.0)) c.loop-i.invariant.1.1

@@ -1,0 +1,34 @@
+-- `card::form::move_step` meets its contract: each return by the tests that led there. Assumes nothing.
+use Prim.Native.Nat.{◌+◌}
+use native.Mathlib.Omega.{arith}
+use borrow.Author.Tests.{le-leb, le-ltb, lt-leb, lt-ltb}
+use Rattle.ground.specs.Pick.{pick}
+use Rattle.card.specs.Form.{move_step}
+use borrow.Author.Rules.{rules}
+use Rattle.card.proofs.form.move_step.Goals as goal
+
+pub returns-then-s-at-lt3 : goal.returns-then-s-at-lt3
+unfolding pick move_step
+returns-then-s-at-lt3 c = simp (lt-ltb _ _ c.if-s-at-lt3.true)
+
+pub overflow_cast-to : goal.overflow_cast-to
+overflow_cast-to c = omega (arith, c.type_inv.s (c.args.f.at + 1))
+
+pub overflow_cast-from : goal.overflow_cast-from
+overflow_cast-from c = omega (arith, c.type_inv.s (c.args.f.at + 2))
+
+pub returns-then-to-low : goal.returns-then-to-low
+unfolding pick move_step
+returns-then-to-low c = simp (le-ltb _ _ c.if-s-at-lt3.false, lt-ltb _ _ c.if-to-low.true)
+
+pub returns-then-regs-to : goal.returns-then-regs-to
+unfolding pick move_step
+returns-then-regs-to c = simp (le-ltb _ _ c.if-s-at-lt3.false, le-ltb _ _ c.if-to-low.false, le-leb _ _ c.if-regs-to.true)
+
+pub returns-then-regs-from : goal.returns-then-regs-from
+unfolding pick move_step
+returns-then-regs-from c = simp (le-ltb _ _ c.if-s-at-lt3.false, le-ltb _ _ c.if-to-low.false, lt-leb _ _ c.if-regs-to.false, le-leb _ _ c.if-regs-from.true)
+
+pub returns : goal.returns
+unfolding pick move_step
+returns c = simp (le-ltb _ _ c.if-s-at-lt3.false, le-ltb _ _ c.if-to-low.false, lt-leb _ _ c.if-regs-to.false, lt-leb _ _ c.if-regs-from.false)

@@ -1,0 +1,22 @@
+-- `explore::find` meets its contract. Assumes nothing.
+use mathlib.Core.Path.{◌≡◌}
+use mathlib.Core.Logic.{⊎_elim}
+use Prim.Native.Nat.{◌≤◌, ◌+◌, ◌-◌}
+use native.Mathlib.Omega.{arith}
+use lib.ListN.{drop}
+use Rattle.paths.specs.Registers.{index}
+use Rattle.explore.specs.Keys.{keys_at}
+use Rattle.explore.proofs.Naming.{find_hit, find_miss, find_end}
+use Rattle.explore.proofs.find.Goals as goal
+
+pub loop-i-init : goal.loop-i-init
+loop-i-init c = (omega arith, omega arith)
+
+pub returns-then-regs-i-2 : goal.returns-then-regs-i-2
+returns-then-regs-i-2 c = find_hit _ _ _ _ _ c.loop-i.invariant.1 (omega arith) c.if-regs-i.true c.if-regs-i-2.true
+
+pub loop-i-preserved : goal.loop-i-preserved
+loop-i-preserved c = (omega arith, find_miss _ _ _ _ _ c.loop-i.invariant.1 (omega arith) (⊎_elim (λ w p q. w.2.left q) (λ w p q. w.left p) c.if-regs-i.branch))
+
+pub returns : goal.returns
+returns c = find_end _ _ _ _ c.loop-i.i c.loop-i.invariant.1 (omega arith) (omega arith)

@@ -1,0 +1,7 @@
+-- `loader::bit` meets its contract: below the width the shift loses nothing. Assumes nothing.
+use Rattle.loader.proofs.Listing.{one_bit}
+use borrow.Author.Rules.{rules}
+use Rattle.loader.proofs.bit.Goals as goal
+
+pub returns : goal.returns
+returns c = one_bit _ c.requires

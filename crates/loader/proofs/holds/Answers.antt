@@ -1,0 +1,9 @@
+-- `loader::holds` meets its contract: the test is that of the bit. Assumes nothing.
+use Prim.Native.Nat.{◌/◌, ◌%◌, ◌^◌}
+use Rattle.ground.specs.Bits.{bit_of}
+use Rattle.loader.proofs.Listing.{says_equal}
+use borrow.Author.Rules.{rules}
+use Rattle.loader.proofs.holds.Goals as goal
+
+pub returns : goal.returns
+returns c = says_equal (c.args.m / 2 ^ c.args.r % 2) 1

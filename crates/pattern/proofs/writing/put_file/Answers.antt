@@ -1,0 +1,12 @@
+-- `put_file` meets its contract: HEAD, records, END, one after the other. Assumes nothing.
+use Prim.Native.Nat.{◌+◌}
+use Rattle.net.specs.Rec.{end}
+use Rattle.net.specs.File.{rec_bytes}
+use Rattle.pattern.specs.Reader.{alts, read}
+use Rattle.pattern.specs.Writing.{coded, head_of}
+use Rattle.ground.proofs.Stores.{wrote_then}
+use borrow.Author.Rules.{rules}
+use Rattle.pattern.proofs.writing.put_file.Goals as goal
+
+pub returns : goal.returns
+returns c = wrote_then (head_of c.args.sum.tags (c.args.sum.size + 1)) _ c.put_head.ensures (wrote_then (coded (read c.args.s.now alts 0 0) 0 c.args.sum.size) (rec_bytes (end c.args.answer)) c.emit_alternatives-o.ensures c.put_end.ensures)

@@ -1,0 +1,7 @@
+-- `part_between` meets its contract: the part that the field call gives for the two tags' positions. Assumes nothing.
+use borrow.Author.Rules.{rules}
+use Rattle.reading.proofs.Readings.{cut_found}
+use Rattle.reading.proofs.part_between.Goals as goal
+
+pub returns : goal.returns
+returns c =     rw (← cut_found _ _ _ _ (record { sfits = c.position-from.type-inv }) (record { sfits = c.position-to.type-inv }) c.position-from.ensures c.position-to.ensures) c.field.ensures

@@ -1,0 +1,10 @@
+-- `report::put_answer` meets its contract: its texts one after the other. Assumes nothing.
+use native.Mathlib.Omega.{arith}
+use borrow.Author.Rules.{rules}
+use Rattle.report.specs.Lines.{answer_line}
+use Rattle.report.proofs.Writing.{wrote_then}
+use Rattle.report.proofs.put_answer.Goals as goal
+
+pub returns : goal.returns
+unfolding answer_line
+returns c = (wrote_then c.put_number-first.ensures.0 (wrote_then c.put_places-end.ensures.0 c.put_byte.ensures), omega arith)

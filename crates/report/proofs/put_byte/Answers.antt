@@ -1,0 +1,7 @@
+-- `report::put_byte` meets its contract. Assumes nothing.
+use borrow.Author.Rules.{rules}
+use Rattle.report.proofs.Writing.{wrote_byte}
+use Rattle.report.proofs.put_byte.Goals as goal
+
+pub returns : goal.returns
+returns c = wrote_byte _ _ _ c.requires

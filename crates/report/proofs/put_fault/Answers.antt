@@ -1,0 +1,13 @@
+-- `report::put_fault` meets its contract: the line by the two tests. Assumes nothing.
+use Rattle.report.proofs.Choosing.{wrote_as, fault_form, fault_deep, fault_other}
+use borrow.Author.Rules.{rules}
+use Rattle.report.proofs.put_fault.Goals as goal
+
+pub returns-then-code-eq2 : goal.returns-then-code-eq2
+returns-then-code-eq2 c = wrote_as (fault_form _ _ c.if-code-eq2.true) c.put_refused_at.ensures
+
+pub returns-then-code-eq3 : goal.returns-then-code-eq3
+returns-then-code-eq3 c = wrote_as (fault_deep _ _ c.if-code-eq2.false c.if-code-eq3.true) c.put_refused_at-then-code-eq3.ensures
+
+pub returns : goal.returns
+returns c = wrote_as (fault_other _ _ c.if-code-eq2.false c.if-code-eq3.false) c.put_refused.ensures.0

@@ -1,0 +1,10 @@
+-- `report::put_refused` meets its contract: its texts one after the other. Assumes nothing.
+use native.Mathlib.Omega.{arith}
+use borrow.Author.Rules.{rules}
+use Rattle.report.specs.Lines.{refused_line}
+use Rattle.report.proofs.Writing.{wrote_then}
+use Rattle.report.proofs.put_refused.Goals as goal
+
+pub returns : goal.returns
+unfolding refused_line
+returns c = (wrote_then c.put_text-number.ensures (wrote_then c.put_number-end.ensures.0 c.put_byte.ensures), omega arith)

@@ -1,0 +1,63 @@
+-- `ride::gliding::glide` meets its contract: the invariant is `Reached`. Assumes nothing.
+use Prim.Native.Nat.{◌+◌, ◌-◌}
+use native.Mathlib.Omega.{arith}
+use mathlib.Core.Path.{◌≡◌, refl, ◌∙◌}
+use mathlib.Core.Logic.{⊎_elim}
+use lib.ListN.{length, set}
+use lib.IntN.{pos}
+use mir.Syntax.{w16}
+use mir.ValLaws.{to_z-of_z}
+use Rattle.ground.proofs.Places.{place_fits}
+use Rattle.ride.specs.Need.{Reached}
+use Rattle.ride.proofs.Riding.{in_image, in_column, column_at, reached_none, reached_stay, reached_one}
+use borrow.Author.Rules.{rules}
+use Rattle.ride.proofs.gliding.glide.Goals as goal
+
+pub loop-place-init : goal.loop-place-init
+loop-place-init c = reached_none c.requires.standing c.requires.within
+
+pub offset_bounds-image-b : goal.offset_bounds-image-b
+offset_bounds-image-b c = omega (arith, c.wide-b.ensures, c.type_inv.line c.loop-place.place)
+
+pub slice_bounds-column-count : goal.slice_bounds-column-count
+slice_bounds-column-count c = let h = in_image c.loop-place.invariant.standing c.wide-b.result (omega (arith, c.wide-b.ensures, c.type_inv.line c.loop-place.place)) in omega arith
+
+pub slice_bounds-column-start : goal.slice_bounds-column-start
+slice_bounds-column-start c = sub-column c
+
+pub offset_bounds-column-row : goal.offset_bounds-column-row
+offset_bounds-column-row c = omega (arith, c.loop-place.invariant.standing.small)
+
+pub bounds-column-row : goal.bounds-column-row
+bounds-column-row c = in_column c.loop-place.invariant.standing c.wide-b.result (omega (arith, c.wide-b.ensures, c.type_inv.line c.loop-place.place))
+
+pub overflow_add-row : goal.overflow_add-row
+overflow_add-row c = omega (arith, c.loop-place.invariant.standing.small)
+
+pub returns-then-e-ge-LISTED : goal.returns-then-e-ge-LISTED
+returns-then-e-ge-LISTED c = c.loop-place.invariant
+
+pub returns-then-limit-next : goal.returns-then-limit-next
+returns-then-limit-next c = c.loop-place.invariant
+
+pub overflow_add-place : goal.overflow_add-place
+overflow_add-place c = omega (arith, c.loop-place-test.true, c.requires.short)
+
+pub held-v-requires : goal.held-v-requires
+held-v-requires c = omega (arith, c.loop-place-test.true, c.requires.short)
+
+pub overflow_add-place-in-loop-place : goal.overflow_add-place-in-loop-place
+overflow_add-place-in-loop-place c = omega (arith, c.loop-place-test.true, c.requires.short)
+
+pub loop-place-preserved : goal.loop-place-preserved
+loop-place-preserved c =     ⊎_elim
+    (λ w.
+    let next = c.loop-place.place + 1 in
+    rw w.5
+    (reached_one c.loop-place.invariant c.word-e.result c.loop-place-test.true c.wide-b.ensures (c.word-e.ensures ∙ column_at c.loop-place.invariant.standing c.wide-b.result (omega (arith, c.wide-b.ensures, c.type_inv.line c.loop-place.place))) refl w.2.left w.1.left
+    (w.4 ∙ rw (w.3.ensures, to_z-of_z w16 (pos next) (place_fits next (omega (arith, c.requires.short)))) refl)))
+    (λ w. rw (w.1, w.2) (reached_stay c.loop-place.invariant c.word-e.result c.loop-place-test.true c.wide-b.ensures (c.word-e.ensures ∙ column_at c.loop-place.invariant.standing c.wide-b.result (omega (arith, c.wide-b.ensures, c.type_inv.line c.loop-place.place))) w.0.left))
+    c.if-e-row.branch
+
+pub returns : goal.returns
+returns c = c.loop-place.invariant
