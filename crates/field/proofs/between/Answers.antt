@@ -13,28 +13,18 @@ pub returns-in_default : goal.returns-in_default
 unfolding cut_of
 returns-in_default c = simp (arrived _ c.ranges.from c.place_of-p.ensures c.in_default.is)
 
--- the first place, once it is known to be one, and then the second
-from_at : (c : tie.After-known-told) → place_of c.before.before.before.before.args.from ≡ At c.before.p.given.0.0
-from_at c = arrived _ c.before.before.before.before.ranges.from c.before.before.before.place_of.ensures c.before.p.given.1
-
-to_at : (c : tie.After-known-told2)
-    → place_of c.before.before.before.before.before.before.before.before.args.to ≡ At c.before.q.given.0.0
-to_at c =
-    arrived _ c.before.before.before.before.before.before.before.before.ranges.to c.before.before.before.place-of2.ensures
-    c.before.q.given.1
-
 pub returns-in_default-q : goal.returns-in_default-q
 unfolding cut_of
-returns-in_default-q c =     simp (from_at c, arrived _ c.ranges.to c.place_of-q.ensures c.in_default-q.is)
+returns-in_default-q c =     simp (arrived _ c.ranges.from c.place_of-p.ensures c.in-At.is, arrived _ c.ranges.to c.place_of-q.ensures c.in_default-q.is)
 
 pub returns-then-e-a : goal.returns-then-e-a
 unfolding cut_of pick
-returns-then-e-a c = simp (from_at c, to_at c, lt-ltb _ _ c.if-e-a.true)
+returns-then-e-a c = simp (arrived _ c.ranges.from c.place_of-p.ensures c.in-At.is, arrived _ c.ranges.to c.place_of-q.ensures c.in-At-q.is, lt-ltb _ _ c.if-e-a.true)
 
 pub returns-then-len-e : goal.returns-then-len-e
 unfolding cut_of pick
-returns-then-len-e c =     simp (from_at c, to_at c, le-ltb _ _ c.if-e-a.false, lt-ltb _ _ c.if-len-e.true)
+returns-then-len-e c =     simp (arrived _ c.ranges.from c.place_of-p.ensures c.in-At.is, arrived _ c.ranges.to c.place_of-q.ensures c.in-At-q.is, le-ltb _ _ c.if-e-a.false, lt-ltb _ _ c.if-len-e.true)
 
 pub returns : goal.returns
 unfolding cut_of pick
-returns c =     simp (from_at c, to_at c, le-ltb _ _ c.if-e-a.false, le-ltb _ _ c.if-len-e.false)
+returns c =     simp (arrived _ c.ranges.from c.place_of-p.ensures c.in-At.is, arrived _ c.ranges.to c.place_of-q.ensures c.in-At-q.is, le-ltb _ _ c.if-e-a.false, le-ltb _ _ c.if-len-e.false)

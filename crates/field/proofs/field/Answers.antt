@@ -4,6 +4,10 @@ use native.Mathlib.Nat.{zero-add}
 use mathlib.Core.Path.{◌≡◌, refl, sym, ap, ◌∙◌}
 use borrow.Author.Rules.{rules}
 use lib.ListN.{length}
+use lib.IntN.{ℤ}
+use mir.Syntax.{w16}
+use mir.Val.{SFits, to_z, of_z}
+use Rattle.field.specs.declared.Cut.{Cut}
 use Rattle.ground.specs.Place.{place_of}
 use Rattle.field.specs.Field.{cut_of}
 use Rattle.field.specs.declared.Cut.TheVariants.{Part}
@@ -17,23 +21,18 @@ returns-in_default c =     handed_none c.args.line _
     (ap (λ (o : ℕ). (c.args.line.ref_ptr.0, o)) (sym (zero-add c.args.line.ref_ptr.1)))
 
 -- what is known of the two places where there is a part
-cut_at : (c : tie.After-known-told)
-    → cut_of (length c.before.before.before.before.before.args.line.now)
-    (place_of c.before.before.before.before.before.args.from)
-    (place_of c.before.before.before.before.before.args.to)
-    ≡ Part c.before.c.given.0.0 c.before.c.given.0.1.0
-cut_at c =
-    let b = c.before.before.before in
-    sym (cut_passed _ _ _ b.before.before.ranges.from b.before.before.ranges.to b.between.ensures) ∙ c.before.c.given.1
+cut_at : (n : ℕ) (v w : ℤ) {c : Cut} {a e : ℕ} → SFits w16 v → SFits w16 w → c ≡ cut_of n (place_of (to_z w16 (of_z w16 v))) (place_of (to_z w16 (of_z w16 w))) → c ≡ Part a e
+    → cut_of n (place_of v) (place_of w) ≡ Part a e
+cut_at n v w f t b p = sym (cut_passed n v w f t b) ∙ p
 
 pub slice_bounds-result-count : goal.slice_bounds-result-count
-slice_bounds-result-count c = (within _ _ _ (cut_at c)).0
+slice_bounds-result-count c = (within _ _ _ (cut_at _ _ _ c.ranges.from c.ranges.to c.between-c.ensures c.in-Part.is)).0
 
 pub slice_bounds-result-start : goal.slice_bounds-result-start
-slice_bounds-result-start c = (within _ _ _ (cut_at c)).0
+slice_bounds-result-start c = (within _ _ _ (cut_at _ _ _ c.ranges.from c.ranges.to c.between-c.ensures c.in-Part.is)).0
 
 pub slice_bounds-result-end-2 : goal.slice_bounds-result-end-2
-slice_bounds-result-end-2 c = (within _ _ _ (cut_at c)).1
+slice_bounds-result-end-2 c = (within _ _ _ (cut_at _ _ _ c.ranges.from c.ranges.to c.between-c.ensures c.in-Part.is)).1
 
 pub returns : goal.returns
-returns c = handed_part _ _ _ (cut_at c) refl refl
+returns c = handed_part _ _ _ (cut_at _ _ _ c.ranges.from c.ranges.to c.between-c.ensures c.in-Part.is) refl refl
