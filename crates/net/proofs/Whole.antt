@@ -7,7 +7,7 @@ use native.Mathlib.Omega.{arith}
 use lib.Dec.{ltb, leb, eqb}
 use lib.ListN.{length, get_or, take, drop, take-append-drop, length-drop, length-map, drop_of_length-le}
 use lib.Seq.{drop-drop, get_or-take, get_or-drop, length-take-le}
-use borrow.Author.Tests.{lt-leb, le-ltb, ltb-true, ltb-false, leb-true, eqb-true, eqb-false, not_false}
+use borrow.Author.Tests.{lt-leb, le-ltb, ltb-true, ltb-false, leb-true, eqb-true, eqb-false, not-false}
 use Rattle.ground.specs.Pick.{pick}
 use Rattle.ground.specs.Lists.{each, Every, Bytes}
 use Rattle.net.specs.Rec.{Rec, Net}
@@ -87,9 +87,9 @@ module _ (s : List ℕ) (at tags count : ℕ) where
       on _ _ _ (λ _. tt) (λ r. record {
         here = refl;
         next = refl;
-        kind = kind_of _ (not_false _ k);
+        kind = kind_of _ (not-false _ k);
         whole = ltb-false _ _ w;
-        ranged = not_false _ r;
+        ranged = not-false _ r;
       }))))
 
   pub taken : (x : Rec) (after : ℕ) → item_at s at tags count ≡ got x after → Taken s at tags count x after
@@ -239,12 +239,12 @@ module _ (s : List ℕ) where
       on_head _ _ _ (λ _. tt) (λ k.
       on_head _ _ _ (λ _. tt) (λ l.
       on_head _ _ _ (λ _. tt) (λ r.
-      let a = and_both _ _ (not_false _ r) in
+      let a = and_both _ _ (not-false _ r) in
       let b = and_both _ _ a.1 in
       let c = and_both _ _ b.1 in
       record {
         long = ltb-false _ _ l;
-        kind = eqb-true _ _ (not_false _ k);
+        kind = eqb-true _ _ (not-false _ k);
         edition = eqb-true _ _ a.0;
         tags_there = refl;
         count_there = refl;

@@ -2,7 +2,7 @@
 -- where it first appears, the registers each (tag, place) where it first appears. Assumes nothing.
 use mathlib.Core.Path.{◌≡◌, refl, sym, ap, ◌∙◌, subst}
 use mathlib.Core.Logic.{◌⊎◌, inl, inr}
-use mathlib.Core.List.{List, [], ◌∷◌, ◌++◌, foldl, foldl_append, append-nil, Memᴰ}
+use mathlib.Core.List.{List, [], ◌∷◌, ◌++◌, foldl, foldl-append, append-nil, Memᴰ}
 use Prim.Native.Nat.{ℕ, zero, suc, ◌<◌}
 use native.Mathlib.Omega.{arith}
 use lib.ListN.{length, get_or}
@@ -62,7 +62,7 @@ module _ {S K : Type 0} {key : S → K} {Has : K → List S → Type 0} {put : L
   -- ---- what l adds to O: what is found already adds nothing, what is found stays, all of l is found, and nothing else
 
   pub gather_append : (O l k : List S) → foldl put O (l ++ k) ≡ foldl put (foldl put O l) k
-  gather_append O l k = foldl_append put O l k
+  gather_append O l k = foldl-append put O l k
 
   pub gather_known : (l O : List S) → ((y : K) → Has y l → Has y O) → foldl put O l ≡ O
   gather_known [] O h = refl

@@ -3,7 +3,7 @@ use mathlib.Core.Path.{◌≡◌, refl, sym, ap, ap₂, ◌∙◌}
 use mathlib.Core.Logic.{◌⊎◌, inl, inr}
 use mathlib.Core.Bool.{Bool, true, false, cond}
 use mathlib.Core.List.Memᴰ
-use mathlib.Core.List.{List, [], ◌∷◌, ◌++◌, foldl, foldl_append, Memᴰ}
+use mathlib.Core.List.{List, [], ◌∷◌, ◌++◌, foldl, foldl-append, Memᴰ}
 use mathlib.Core.Option.{none, some}
 use Prim.Native.Nat.{ℕ, zero, suc, ◌≤◌, ◌<◌}
 use native.Mathlib.Nat.{lt_irrefl}
@@ -302,5 +302,5 @@ situations A w = number_after A 0 (begin A) w (begin_within A)
 pub situation_next : (A : Net) (w : List ℕ) (b : ℕ) → situation A (w ++ (b ∷ [])) ≡ next A b (situation A w)
 situation_next A w b =
     situations A (w ++ (b ∷ []))
-    ∙ foldl_append (λ s b. next A b s) (situation A []) w (b ∷ [])
+    ∙ foldl-append (λ s b. next A b s) (situation A []) w (b ∷ [])
     ∙ ap (λ s. next A b s) (sym (situations A w))

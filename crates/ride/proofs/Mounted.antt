@@ -19,7 +19,7 @@ use Rattle.ground.proofs.Picks.{by_test}
 use Rattle.card.proofs.Laws.{at_end}
 use Rattle.card.proofs.Rows.{row_whole, no_line, row_ends, row_here, row_later}
 use Rattle.run.proofs.Carrying.{no_cmds}
-use Rattle.image.specs.Image.{block, misfit, block_bits, of_bits, first_to, first_from, leading, behind, of_list, is_block, next_of, kind_of, cell_of, list_of, entry, all_sets, list_kind, points, spot_at, entry_at_lem}
+use Rattle.image.specs.Image.{block, misfit, block_bits, of_bits, first_to, first_from, leading, behind, of_list, is_block, next_of, kind_of, cell_of, list_of, entry, all_sets, list_kind, points, spot_at, entry_at}
 use Rattle.ride.specs.Ride.{only_sets, orders, listless}
 use Rattle.image.proofs.Spots.{after_past, spot_ends, spot_here, spot_later}
 use Rattle.image.proofs.Entries.{entry_ends, entry_leads}
@@ -200,7 +200,7 @@ module _ (s : List ℕ) (short : length s < 8388608) where
   bounds_free lo hi next l r = record { next = r.next; orders = r.orders; listed = r.listed }
 
   row_says : (at lo hi next : ℕ) → row_at s at ≡ Leads lo hi next → next < 128
-      → SaysRow s (entry_at_lem s at) (record { lo = lo; hi = hi; next = next; cmds = cmds_at s (at + 4) })
+      → SaysRow s (entry_at s at) (record { lo = lo; hi = hi; next = next; cmds = cmds_at s (at + 4) })
   row_says at lo hi next e small =
       let w = row_whole s at lo hi next e in
       subst (λ (n : ℕ). SaysRow s n (record { lo = lo; hi = hi; next = next; cmds = cmds_at s (at + 4) })) (entry_leads s at lo hi next e)
@@ -208,28 +208,28 @@ module _ (s : List ℕ) (short : length s < 8388608) where
 
   module _ (b : ℕ) where
     Tells : ℕ → Type 0
-    Tells at = (row_for (rows_at s at) b).next < 128 → SaysRow s (entry_at_lem s (spot_at s at b)) (row_for (rows_at s at) b)
+    Tells at = (row_for (rows_at s at) b).next < 128 → SaysRow s (entry_at s (spot_at s at b)) (row_for (rows_at s at) b)
 
     tells_none : (at : ℕ) → row_at s at ≡ Ends → Tells at
     unfolding Tells
     tells_none at e small =
-        subst (λ (x : Row). SaysRow s (entry_at_lem s (spot_at s at b)) x) (row_ends s at b e)
+        subst (λ (x : Row). SaysRow s (entry_at s (spot_at s at b)) x) (row_ends s at b e)
         (subst (λ (n : ℕ). SaysRow s n no_row)
-        (entry_ends s (length s) (no_line s (length s) (omega arith)) ∙ sym (ap (entry_at_lem s) (spot_ends s b at e))) no_entry)
+        (entry_ends s (length s) (no_line s (length s) (omega arith)) ∙ sym (ap (entry_at s) (spot_ends s b at e))) no_entry)
 
     tells_row : (at lo hi next : ℕ) → row_at s at ≡ Leads lo hi next → Tells (after_at s (at + 4)) → (t : Bool) → leb b hi ≡ t → Tells at
     unfolding Tells
     tells_row at lo hi next e more true k small =
         let h = leb-true b hi k in
         let r = row_here s at b lo hi next e h in
-        subst (λ (x : Row). SaysRow s (entry_at_lem s (spot_at s at b)) x) r
-        (subst (λ (n : ℕ). SaysRow s (entry_at_lem s n) (record { lo = lo; hi = hi; next = next; cmds = cmds_at s (at + 4) })) (sym (spot_here s b at lo hi next e h))
+        subst (λ (x : Row). SaysRow s (entry_at s (spot_at s at b)) x) r
+        (subst (λ (n : ℕ). SaysRow s (entry_at s n) (record { lo = lo; hi = hi; next = next; cmds = cmds_at s (at + 4) })) (sym (spot_here s b at lo hi next e h))
         (row_says at lo hi next e (omega (arith, ap (λ (x : Row). x.next) r))))
     tells_row at lo hi next e more false k small =
         let h = leb-false b hi k in
         let r = row_later s at b lo hi next e h in
-        subst (λ (x : Row). SaysRow s (entry_at_lem s (spot_at s at b)) x) r
-        (subst (λ (n : ℕ). SaysRow s (entry_at_lem s n) (row_for (rows_at s (after_at s (at + 4))) b)) (sym (spot_later s b at lo hi next e h))
+        subst (λ (x : Row). SaysRow s (entry_at s (spot_at s at b)) x) r
+        (subst (λ (n : ℕ). SaysRow s (entry_at s n) (row_for (rows_at s (after_at s (at + 4))) b)) (sym (spot_later s b at lo hi next e h))
         (more (omega (arith, ap (λ (x : Row). x.next) r))))
 
     tells_item : (at : ℕ) (x : RowItem) → row_at s at ≡ x → Tells (after_at s (at + 4)) → Tells at
@@ -240,6 +240,6 @@ module _ (s : List ℕ) (short : length s < 8388608) where
     from zero at h = tells_none at (no_line s at (omega arith))
     from (suc n) at h = let g = after_past s at in tells_item at (row_at s at) refl (from n (after_at s (at + 4)) (omega arith))
 
-    pub spot_says : (at : ℕ) → (row_for (rows_at s at) b).next < 128 → SaysRow s (entry_at_lem s (spot_at s at b)) (row_for (rows_at s at) b)
+    pub spot_says : (at : ℕ) → (row_for (rows_at s at) b).next < 128 → SaysRow s (entry_at s (spot_at s at b)) (row_for (rows_at s at) b)
     unfolding Tells
     spot_says at small = from (length s) at (omega arith) small

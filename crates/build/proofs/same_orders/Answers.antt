@@ -1,5 +1,5 @@
 -- `build::same_orders` meets its contract. Assumes nothing.
-use borrow.Author.Tests.{not_true, not_false}
+use borrow.Author.Tests.{not-true, not-false}
 use mathlib.Core.Path.{◌≡◌, refl, sym, ◌∙◌}
 use Prim.Native.Nat.{◌≤◌, ◌-◌}
 use native.Mathlib.Omega.{arith}
@@ -35,7 +35,7 @@ bounds-b-i c = omega (arith, c.requires.1, c.loop-i.invariant.1.0)
 pub returns-then-not-same_order : goal.returns-then-not-same_order
 returns-then-not-same_order c =     let len = unmapped _ c.args.a.list 64 c.well_formed.0.1.1.1.0.1.0.1 in
     let len2 = unmapped _ c.args.b.list 64 c.well_formed.1.0.1.1.1.0.1.0.1 in
-    same_stop c.args.a c.args.b (omega (arith, c.requires.0)) (omega (arith, c.requires.1)) c.loop-i.i (omega arith) (omega (arith, c.loop-i.invariant.1.0)) c.loop-i.invariant.1.1 (sym c.same_order.ensures ∙ not_true _ c.if-not-same_order.true-raw)
+    same_stop c.args.a c.args.b (omega (arith, c.requires.0)) (omega (arith, c.requires.1)) c.loop-i.i (omega arith) (omega (arith, c.loop-i.invariant.1.0)) c.loop-i.invariant.1.1 (sym c.same_order.ensures ∙ not-true _ c.if-not-same_order.true-raw)
 
 pub overflow_add-i : goal.overflow_add-i
 overflow_add-i c = omega (arith, c.requires.0)
@@ -43,7 +43,7 @@ overflow_add-i c = omega (arith, c.requires.0)
 pub loop-i-preserved : goal.loop-i-preserved
 loop-i-preserved c =     let len = unmapped _ c.args.a.list 64 c.well_formed.0.1.1.1.0.1.0.1 in
     let len2 = unmapped _ c.args.b.list 64 c.well_formed.1.0.1.1.1.0.1.0.1 in
-    (omega arith, (c.loop-i.invariant.1.0, same_step c.args.a c.args.b (omega (arith, c.requires.0)) (omega (arith, c.requires.1)) c.loop-i.i (omega arith) (omega (arith, c.loop-i.invariant.1.0)) c.loop-i.invariant.1.1 (sym c.same_order.ensures ∙ not_false _ c.if-not-same_order.false-raw)))
+    (omega arith, (c.loop-i.invariant.1.0, same_step c.args.a c.args.b (omega (arith, c.requires.0)) (omega (arith, c.requires.1)) c.loop-i.i (omega arith) (omega (arith, c.loop-i.invariant.1.0)) c.loop-i.invariant.1.1 (sym c.same_order.ensures ∙ not-false _ c.if-not-same_order.false-raw)))
 
 pub returns : goal.returns
 returns c =     let len = unmapped _ c.args.a.list 64 c.well_formed.0.1.1.1.0.1.0.1 in

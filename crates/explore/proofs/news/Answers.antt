@@ -3,7 +3,7 @@ use mathlib.Core.Logic.{⊎_elim}
 use Prim.Native.Nat.{◌≤◌, ◌-◌}
 use native.Mathlib.Omega.{arith}
 use lib.ListN.{length}
-use borrow.Author.Tests.{not_true}
+use borrow.Author.Tests.{not-true}
 use Rattle.net.specs.Items.{net_at}
 use Rattle.explore.specs.Explore.{Told}
 use Rattle.explore.proofs.Classes.{told_none, told_more}
@@ -19,7 +19,7 @@ pub bounds-told-b : goal.bounds-told-b
 bounds-told-b c = omega (arith, c.loop-b.invariant.1.size)
 
 pub loop-b-preserved : goal.loop-b-preserved
-loop-b-preserved c = (omega arith, ⊎_elim (λ w. rw w.1 (told_more _ _ _ _ c.loop-b.invariant.1 (c.fresh.ensures (not_true _ w.0.taken)))) (λ w. rw w.1 c.loop-b.invariant.1) c.if-not-fresh.branch)
+loop-b-preserved c = (omega arith, ⊎_elim (λ w. rw w.1 (told_more _ _ _ _ c.loop-b.invariant.1 (c.fresh.ensures (not-true _ w.0.taken)))) (λ w. rw w.1 c.loop-b.invariant.1) c.if-not-fresh.branch)
 
 pub returns : goal.returns
 returns c = c.loop-b.invariant.1

@@ -3,7 +3,7 @@ use mathlib.Core.Logic.{⊎_elim}
 use Prim.Native.Nat.{◌≤◌, ◌-◌}
 use native.Mathlib.Omega.{arith}
 use lib.ListN.{length}
-use borrow.Author.Tests.{not_true}
+use borrow.Author.Tests.{not-true}
 use Rattle.net.specs.Items.{net_at}
 use Rattle.explore.specs.Explore.{Told}
 use Rattle.explore.proofs.Classes.{told_none, told_more}

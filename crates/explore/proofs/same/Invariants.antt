@@ -1,5 +1,5 @@
 -- `explore::same` meets its contract. Assumes nothing.
-use borrow.Author.Tests.{not_true, not_false}
+use borrow.Author.Tests.{not-true, not-false}
 use mathlib.Core.Path.{◌≡◌, sym, ◌∙◌}
 use Prim.Native.Nat.{ℕ, ◌≤◌, ◌<◌, ◌+◌, ◌*◌, ◌-◌}
 use native.Mathlib.Omega.{arith}

@@ -7,7 +7,7 @@ use lib.ListN.{length}
 use lib.IntN.{pos}
 use mir.Syntax.{w16}
 use mir.ValLaws.{to_z-of_z}
-use borrow.Author.Tests.{not_true, not_false}
+use borrow.Author.Tests.{not-true, not-false}
 use Rattle.ground.proofs.Places.{place_fits}
 use borrow.Author.Rules.{rules}
 use Rattle.ride.proofs.Riding.{in_image, went_on, went_round, Going, going_none, going_ends, going_stay, going_astray, going_one, going_obeyed, going_missed}
@@ -52,14 +52,14 @@ returns-then-not-obey c =
     (
   going_missed c.requires.0 c.loop-i.invariant c.word-e.result c.loop-i-test.true c.wide-b.ensures c.word-e.ensures
       (⊎_elim (λ v. went_on c.loop-i.invariant.standing c.word-e.result v.1.left v.2) (λ v. went_round c.loop-i.invariant.standing c.word-e.result v.0.left v.1) c.if-next-row.branch)
-      c.obey.ensures (not_true _ c.if-not-obey.true-raw) 32768 refl,
+      c.obey.ensures (not-true _ c.if-not-obey.true-raw) 32768 refl,
   inl refl,
 )
 
 pub loop-i-preserved-else-not-obey : goal.loop-i-preserved-else-not-obey
 loop-i-preserved-else-not-obey c =     going_obeyed c.requires.0 c.loop-i.invariant c.word-e.result c.loop-i-test.true c.wide-b.ensures c.word-e.ensures
     (⊎_elim (λ v. went_on c.loop-i.invariant.standing c.word-e.result v.1.left v.2) (λ v. went_round c.loop-i.invariant.standing c.word-e.result v.0.left v.1) c.if-next-row.branch)
-    c.obey.ensures (not_false _ c.if-not-obey.false-raw)
+    c.obey.ensures (not-false _ c.if-not-obey.false-raw)
 
 pub loop-i-preserved : goal.loop-i-preserved
 loop-i-preserved c = going_stay c.requires.0 c.loop-i.invariant c.word-e.result c.loop-i-test.true c.wide-b.ensures c.word-e.ensures c.if-e-row.false

@@ -7,7 +7,7 @@ use lib.ListN.{length}
 use lib.IntN.{pos}
 use mir.Syntax.{w16}
 use mir.ValLaws.{to_z-of_z}
-use borrow.Author.Tests.{not_true, not_false}
+use borrow.Author.Tests.{not-true, not-false}
 use Rattle.ground.proofs.Places.{place_fits}
 use borrow.Author.Rules.{rules}
 use Rattle.ride.proofs.Riding.{in_image, went_on, went_round, Going, going_none, going_ends, going_stay, going_astray, going_one, going_obeyed, going_missed}

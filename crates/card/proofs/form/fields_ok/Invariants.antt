@@ -1,5 +1,5 @@
 -- `card::form::fields_ok` meets its contract: the fields passed are right, so the rest decides. Assumes nothing.
-use borrow.Author.Tests.{not_true, not_false}
+use borrow.Author.Tests.{not-true, not-false}
 use Rattle.card.proofs.Fields.{fields_more, fields_bad, fields_none}
 use Prim.Native.Nat.{◌+◌, ◌≤◌, ◌-◌}
 use mathlib.Core.Path.{◌≡◌, refl, sym, ◌∙◌}
