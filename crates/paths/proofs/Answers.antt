@@ -8,7 +8,7 @@ use Prim.Native.Nat.{ℕ}
 use native.Mathlib.Omega.{arith}
 use lib.Seq.{append_snoc}
 use Rattle.net.specs.Rec.{Rec, range, mask, fork, tag, end, Net, rec}
-use Rattle.paths.specs.Ways.{Move, Way, eaten, Earlier, later, stay, go, Held, empty_handed, act, held, Accepts, Answer}
+use Rattle.paths.specs.Ways.{Move, Way, eaten, Earlier, parts, later, stay, go, Held, empty_handed, act, held, Accepts, Answer}
 use Rattle.paths.specs.Search.{Thread, ons, add, firsts}
 use Rattle.paths.specs.Situation.{every, threads, ending, first_end, answer}
 use Rattle.paths.proofs.Member.{mem_or_not}
@@ -180,6 +180,7 @@ module _ (A : Net) (w : List ℕ) where
 
 pub asym : {p q : List Move} → Earlier p q → Earlier q p → ⊥
 asym (later d) (later e) = asym d e
+asym (parts {p = p} {q = q}) e = elim e [ ]
 
 module _ (A : Net) where
   same_last : {r : ℕ} {ms : List Move} {x y : ℕ} → Way A r ms x → Way A r ms y → x ≡ y

@@ -42,7 +42,7 @@ module _ {X : Type 0} (f : Move → X → X) (x : X) where
       by ih (inl p) = (e, Memᴰ.head refl, p)
       by ih (inr k) = let r = ih k in (r.0, Memᴰ.tail r.1, r.2)
 
-  pub follow_has : {es : List (Move × ℕ)} {e : Move × ℕ} → Memᴰ e es → Memᴰ (record { on = e.1; had = f e.0 x }) (follow f x es)
+  pub follow_has : {e : Move × ℕ} {es : List (Move × ℕ)} → Memᴰ e es → Memᴰ (record { on = e.1; had = f e.0 x }) (follow f x es)
   follow_has (Memᴰ.head p) = Memᴰ.head (ap (λ e. record { on = e.1; had = f e.0 x }) p)
   follow_has (Memᴰ.tail m) = Memᴰ.tail (follow_has m)
 
@@ -52,7 +52,7 @@ abbrev pub All : {B : Type 0} → (B → Type 0) → List B → Type 0
 All P [] = Unit {0}
 All P (x ∷ l) = P x × All P l
 
-pub all_at : {B : Type 0} (P : B → Type 0) {l : List B} → All P l → {x : B} → Memᴰ x l → P x
+pub all_at : {B : Type 0} (P : B → Type 0) {x : B} {l : List B} → All P l → Memᴰ x l → P x
 all_at P a (Memᴰ.head e) = rw e a.0
 all_at P a (Memᴰ.tail m) = all_at P a.1 m
 

@@ -46,7 +46,7 @@ module _ {B : Type 0} (A : Net) where
       by ih true e n = cons ih e (Memᴰ.cases_cons n)
       by ih false e n = let r = ih n in (Memᴰ.tail r.0, r.1)
 
-  standing_has : {l : List (Thread B)} {t : Thread B} → Memᴰ t l → stands (rec A t.on) ≡ true → Memᴰ t (standing A l)
+  standing_has : {t : Thread B} {l : List (Thread B)} → Memᴰ t l → stands (rec A t.on) ≡ true → Memᴰ t (standing A l)
   standing_has {t = t} (Memᴰ.head {x = x} {xs = xs} p) e = rw (sym (ap (λ v. stands (rec A v.on)) p) ∙ e) (Memᴰ.head p)
   standing_has {t = t} (Memᴰ.tail {x = x} {xs = xs} m) e = by (stands (rec A x.on)) (standing_has m e)
     where
