@@ -182,7 +182,7 @@ apart : {p q r s : List Move} → Earlier p q → Earlier r s → q ≡ r → p 
 apart parts parts x y = let z : ◌≡◌ {A = ℕ} 0 1 = cc in absurd (omega arith)
 apart parts (later e) x y = let z : ◌≡◌ {A = ℕ} 0 1 = cc in absurd (omega arith)
 apart (later d) parts x y = let z : ◌≡◌ {A = ℕ} 0 1 = cc in absurd (omega arith)
-apart (later d) (later e) x y = apart d e cc cc
+apart (later {m = m} {p = p} {q = q} d) (later {m = n} {p = r} {q = s} e) x y = let u : q ≡ r = cc in let v : p ≡ s = cc in apart d e u v
 
 pub asym : {p q : List Move} → Earlier p q → Earlier q p → ⊥
 asym d e = apart d e refl refl

@@ -11,6 +11,7 @@ use Rattle.explore.specs.States.{tags_of}
 use Rattle.explore.specs.Keys.{keys_at}
 use Rattle.explore.proofs.Naming.{gather_over, gather_on, gather_skip, gathered, whole_tags}
 use Rattle.explore.proofs.gather.Goals as goal
+use Rattle.explore.proofs.gather.Goals.{then-o+else-k-gt64, else-o}
 
 pub loop-t-init : goal.loop-t-init
 loop-t-init c = (omega arith, (c.requires.0, (c.requires.1, refl)))
@@ -26,12 +27,13 @@ returns-then-k-gt64 c =     let len : length c.args.e.had ≡ 8 = search rules i
     gather_over c.args.e.had c.loop-t.t (omega arith) _ _ c.loop-t.invariant.1.1.1 c.if-o.true _ _ c.add-k.ensures c.if-k-gt64.true
 
 pub loop-t-preserved : goal.loop-t-preserved
-loop-t-preserved c =     let len : length c.args.e.had ≡ 8 = search rules in (
+loop-t-preserved c =
+    let len : length c.args.e.had ≡ 8 = search rules in (
       omega arith,
-      ⊎_elim
-          (λ w. rw (w.6, w.7) (w.5.left, (w.2.ensures.size, gather_on c.args.e.had c.loop-t.t (omega arith) _ _ c.loop-t.invariant.1.1.1 w.0.taken _ _ w.2.ensures w.5.left)))
-          (λ w. rw (w.1, w.2) (c.loop-t.invariant.1.0, (c.loop-t.invariant.1.1.0, gather_skip c.args.e.had c.loop-t.t (omega arith) _ _ c.loop-t.invariant.1.1.1 w.0.left)))
-          c.if-o.branch,
+      elim c.if-o.branch [
+        then-o+else-k-gt64 w ↦ rw (w.regs-is, w.k-is) (w.if-k-gt64.false, (w.add-k.ensures.size, gather_on c.args.e.had c.loop-t.t (omega arith) _ _ c.loop-t.invariant.1.1.1 w.if-o.true _ _ w.add-k.ensures w.if-k-gt64.false))
+      | else-o w ↦ rw (w.regs-is, w.k-is) (c.loop-t.invariant.1.0, (c.loop-t.invariant.1.1.0, gather_skip c.args.e.had c.loop-t.t (omega arith) _ _ c.loop-t.invariant.1.1.1 w.if-o.false))
+      ],
     )
 
 pub shape_of-regs : goal.shape_of-regs

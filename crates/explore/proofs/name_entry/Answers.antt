@@ -11,6 +11,7 @@ use Rattle.explore.specs.States.{tags_of}
 use Rattle.explore.specs.Keys.{keys_at}
 use Rattle.explore.proofs.Naming.{index_small, name_one, name_skip, named_all}
 use Rattle.explore.proofs.name_entry.Goals as goal
+use Rattle.explore.proofs.name_entry.Goals.{then-o, else-o}
 
 pub loop-t-init : goal.loop-t-init
 loop-t-init c =     let len : length c.args.e.had ≡ 8 = search rules in
@@ -26,12 +27,13 @@ pub bounds-d-t : goal.bounds-d-t
 bounds-d-t c = omega (arith, c.loop-t.invariant.1.1.0)
 
 pub loop-t-preserved : goal.loop-t-preserved
-loop-t-preserved c =     let len : length c.args.e.had ≡ 8 = search rules in (
+loop-t-preserved c =
+    let len : length c.args.e.had ≡ 8 = search rules in (
       omega arith,
-      ⊎_elim
-          (λ w. rw w.2 (c.loop-t.invariant.1.0, (length-set c.loop-t.d.had c.loop-t.t w.1.result ∙ c.loop-t.invariant.1.1.0, name_one _ c.args.e.had c.loop-t.t (omega arith) c.loop-t.d.had c.loop-t.invariant.1.1.1 w.0.taken _ (index_small _ _ c.requires.0 _ _ _ w.1.ensures) w.1.ensures)))
-          (λ w. rw w.1 (c.loop-t.invariant.1.0, (c.loop-t.invariant.1.1.0, name_skip _ c.args.e.had c.loop-t.t (omega arith) c.loop-t.d.had c.loop-t.invariant.1.1.1 w.0.left)))
-          c.if-o.branch,
+      elim c.if-o.branch [
+        then-o w ↦ rw w.d-is (c.loop-t.invariant.1.0, (length-set c.loop-t.d.had c.loop-t.t w.find-i.result ∙ c.loop-t.invariant.1.1.0, name_one _ c.args.e.had c.loop-t.t (omega arith) c.loop-t.d.had c.loop-t.invariant.1.1.1 w.if-o.true _ (index_small _ _ c.requires.0 _ _ _ w.find-i.ensures) w.find-i.ensures))
+      | else-o w ↦ rw w.d-is (c.loop-t.invariant.1.0, (c.loop-t.invariant.1.1.0, name_skip _ c.args.e.had c.loop-t.t (omega arith) c.loop-t.d.had c.loop-t.invariant.1.1.1 w.if-o.false))
+      ],
     )
 
 pub returns : goal.returns

@@ -16,7 +16,7 @@ use Rattle.explore.proofs.Going.{new_ready}
 use Rattle.explore.proofs.Biting.{means_none, means_more, below_at, swept, counted_fit}
 use Rattle.explore.proofs.sweep.Given as goal
 abbrev pub invariant-loop-i : goal.invariant-loop-i
-invariant-loop-i l = (l.i ≤ l.m) × (Ready (length l.offs) l.marks l.list l.n × Means l.marks l.list l.n (foldl (marking (tagged l.stamp) (net_at l.file l.offs) (suc (length (net_at l.file l.offs)))) (record { l.marks = []; l.list = [] }) (each (on_byte (tagged l.stamp) (net_at l.file l.offs) l.b) (threads_at l.s 2 l.i))))
+invariant-loop-i l = (l.i ≤ l.m) × (Ready (length l.offs) l.marks l.list l.n × Means l.marks l.list l.n (foldl (marking (tagged l.stamp) (net_at l.file l.offs) (suc (length (net_at l.file l.offs)))) (record { marks = []; list = [] }) (each (on_byte (tagged l.stamp) (net_at l.file l.offs) l.b) (threads_at l.s 2 l.i))))
 
 abbrev pub decreases-loop-i : goal.decreases-loop-i
 decreases-loop-i l = l.m - l.i
