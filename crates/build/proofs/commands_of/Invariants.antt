@@ -11,7 +11,7 @@ use Rattle.build.specs.Writing.{orders_of}
 use Rattle.build.proofs.Commands.{commands_start, commands_set, commands_move, commands_skip, commands_done}
 use Rattle.build.proofs.commands_of.Given as goal
 abbrev pub invariant-loop-k : goal.invariant-loop-k
-invariant-loop-k l = (l.k ≤ l.n) × ((l.m ≤ l.k) × ((length l.list ≡ 64) × (orders_of (record { n = l.m; list = l.list }) ++ commands l.fresh l.k (drop l.k (map (λ l.k. l.k.1) (keys_at l.regs 0 l.n))) ≡ commands l.fresh 0 (map (λ l.k. l.k.1) (keys_at l.regs 0 l.n)))))
+invariant-loop-k l = (l.k ≤ l.n) × ((l.m ≤ l.k) × ((length l.list ≡ 64) × (orders_of (record { n = l.m; list = l.list }) ++ commands l.fresh l.k (drop l.k (map (λ k. k.1) (keys_at l.regs 0 l.n))) ≡ commands l.fresh 0 (map (λ k. k.1) (keys_at l.regs 0 l.n)))))
 
 abbrev pub decreases-loop-k : goal.decreases-loop-k
 decreases-loop-k l = l.n - l.k

@@ -16,7 +16,7 @@ use Rattle.explore.proofs.Classes.{skipped}
 use Rattle.explore.proofs.Exploration.{once_none, expand_stop, expand_on, expanded, loaded}
 use Rattle.explore.proofs.expand.Given as goal
 abbrev pub invariant-loop-b : goal.invariant-loop-b
-invariant-loop-b l = (l.b ≤ 256) × ((length l.work ≡ length l.initial.work) × (Kept (length l.offs) l.work l.n × (slots l.work 0 l.n ≡ once same_situation (slots l.initial.work 0 l.count) (map (λ l.b. next (net_at l.file l.offs) l.b (slot l.s 0)) (bytes 0 l.b)))))
+invariant-loop-b l = (l.b ≤ 256) × ((length l.work ≡ length l.initial.work) × (Kept (length l.offs) l.work l.n × (slots l.work 0 l.n ≡ once same_situation (slots l.initial.work 0 l.count) (map (λ b. next (net_at l.file l.offs) b (slot l.s 0)) (bytes 0 l.b)))))
 
 abbrev pub decreases-loop-b : goal.decreases-loop-b
 decreases-loop-b l = 256 - l.b
