@@ -10,6 +10,7 @@ use Rattle.build.specs.Card.{commands}
 use Rattle.build.specs.Writing.{orders_of}
 use Rattle.build.proofs.Commands.{commands_start, commands_set, commands_move, commands_skip, commands_done}
 use Rattle.build.proofs.commands_of.Goals as goal
+use Rattle.build.proofs.commands_of.Goals.{then-from-fresh, else-from-fresh+then-from-to, else-from-fresh+else-from-to}
 
 pub loop-k-init : goal.loop-k-init
 loop-k-init c = (omega arith, (omega arith, (refl, commands_start _ refl _)))
@@ -48,14 +49,14 @@ pub overflow_add-k : goal.overflow_add-k
 overflow_add-k c = omega (arith, c.requires.0)
 
 pub loop-k-preserved : goal.loop-k-preserved
-loop-k-preserved c =     let in_it : c.loop-k.m < length c.loop-k.list = omega (arith, c.requires.0, c.loop-k.invariant.1.0, c.loop-k.invariant.1.1.0) in (
+loop-k-preserved c =
+    let in_it : c.loop-k.m < length c.loop-k.list = omega (arith, c.requires.0, c.loop-k.invariant.1.0, c.loop-k.invariant.1.1.0) in (
       omega arith,
-      ⊎_elim
-          (λ w. rw (w.1, w.2) (omega (arith, c.loop-k.invariant.1.0), (simp length-set c.loop-k.invariant.1.1.0, commands_set _ _ _ _ _ c.loop-k.k (omega arith) in_it c.loop-k.invariant.1.1.1 w.0.taken)))
-          (⊎_elim
-          (λ w. rw (w.2, w.3) (omega (arith, c.loop-k.invariant.1.0), (simp length-set c.loop-k.invariant.1.1.0, commands_move _ _ _ _ _ c.loop-k.k (omega arith) in_it c.loop-k.invariant.1.1.1 w.0.left w.1.taken)))
-          (λ w. rw (w.2, w.3) (omega (arith, c.loop-k.invariant.1.0), (c.loop-k.invariant.1.1.0, commands_skip _ _ _ _ _ c.loop-k.k (omega arith) in_it c.loop-k.invariant.1.1.1 w.0.left w.1.left))))
-          c.if-from-fresh.branch,
+      elim c.if-from-fresh.branch [
+        then-from-fresh w ↦ rw (w.list-is, w.m-is) (omega (arith, c.loop-k.invariant.1.0), (simp length-set c.loop-k.invariant.1.1.0, commands_set _ _ _ _ _ c.loop-k.k (omega arith) in_it c.loop-k.invariant.1.1.1 w.if-from-fresh.true))
+      | else-from-fresh+then-from-to w ↦ rw (w.list-is, w.m-is) (omega (arith, c.loop-k.invariant.1.0), (simp length-set c.loop-k.invariant.1.1.0, commands_move _ _ _ _ _ c.loop-k.k (omega arith) in_it c.loop-k.invariant.1.1.1 w.if-from-fresh.false w.if-from-to.true))
+      | else-from-fresh+else-from-to w ↦ rw (w.list-is, w.m-is) (omega (arith, c.loop-k.invariant.1.0), (c.loop-k.invariant.1.1.0, commands_skip _ _ _ _ _ c.loop-k.k (omega arith) in_it c.loop-k.invariant.1.1.1 w.if-from-fresh.false w.if-from-to.false))
+      ],
     )
 
 pub returns : goal.returns

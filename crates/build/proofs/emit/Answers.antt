@@ -5,9 +5,10 @@ use lib.ListN.{length-set}
 use Rattle.build.proofs.Writing.{wrote_one, wrote_past}
 use borrow.Author.Rules.{rules}
 use Rattle.build.proofs.emit.Goals as goal
+use Rattle.build.proofs.emit.Goals.{then-at-out, else-at-out}
 
 pub shape_of-out : goal.shape_of-out
-shape_of-out c = ⊎_elim (λ w. rw w.1 (simp length-set)) (λ w. rw w.1 refl) c.if-at-out.branch
+shape_of-out c = elim c.if-at-out.branch [ then-at-out w ↦ rw w.out-is (simp length-set) | else-at-out w ↦ rw w.out-is refl ]
 
 pub returns : goal.returns
-returns c = ⊎_elim (λ w. rw w.1 (wrote_one _ _ _)) (λ w. rw w.1 (wrote_past _ _ _ w.0.left)) c.if-at-out.branch
+returns c = elim c.if-at-out.branch [ then-at-out w ↦ rw w.out-is (wrote_one _ _ _) | else-at-out w ↦ rw w.out-is (wrote_past _ _ _ w.if-at-out.false) ]

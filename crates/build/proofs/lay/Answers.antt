@@ -23,7 +23,7 @@ emit_table-requires c = record { formed = (c.requires.formed.0, c.requires.forme
 pub most_of-m-requires : goal.most_of-m-requires
 most_of-m-requires c = 
     let k = (c.explore-t.ensures.fine c.if-t-ne0.false).0 in
-record { count_in_bounds = omega (arith, k.room, k.most); needs = λ j b. (k.holds j b).count }
+    record { count_in_bounds = omega (arith, k.room, k.most); needs = λ j b. (k.holds j b).count }
 
 pub returns : goal.returns
 returns c = record { size = search rules; makes = room _ _ _ _ _ c.explore-t.ensures _ _ c.if-t-ne0.false _ _ _ c.emit_table-length.ensures.0 c.if-out-length.false _ _ c.emit_table.ensures.0 _ c.most_of-m.ensures }

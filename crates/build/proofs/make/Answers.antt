@@ -9,4 +9,4 @@ pub lay-requires : goal.lay-requires
 lay-requires c = record { formed = (c.requires.formed.0, (c.requires.formed.1, c.news-news.ensures)); in_bounds = c.requires.in_bounds }
 
 pub returns : goal.returns
-returns c = c.lay.ensures.?size,makes
+returns c = record { size = c.lay.ensures.size; makes = c.lay.ensures.makes }
