@@ -44,7 +44,7 @@ pub emit_alternatives-emit_sequence-requires : goal.emit_alternatives-emit_seque
 emit_alternatives-emit_sequence-requires t c = let q = sym c.in-Ok-one.is ∙ c.sequence-one.ensures in let g = far c.args.s.now c.args.depth c.loop-end.i c.loop-end.invariant.within seq c.in-Ok-one.end c.in-Ok-one.more q in let b : look c.args.s.now c.in-Ok-one.end ≡ 124 → ⊥ = λ x. c.if-look-ne124.true (c.look.ensures ∙ x) in (omega arith, (c.loop-end.invariant.within, c.requires.1, c.requires.2, alts_last c.loop-end.invariant c.in-Ok-one.end c.in-Ok-one.more q b))
 
 pub emit_alternatives-shape_of-out-then-look-ne124 : goal.emit_alternatives-shape_of-out-then-look-ne124
-emit_alternatives-shape_of-out-then-look-ne124 t c = c.emit_sequence.auto.1.1.1.0 ∙ wrote_length c.loop-end.invariant.done c.loop-end.invariant.wrote
+emit_alternatives-shape_of-out-then-look-ne124 t c = c.emit_sequence.auto.out ∙ wrote_length c.loop-end.invariant.done c.loop-end.invariant.wrote
 
 pub emit_alternatives-returns-then-look-ne124 : goal.emit_alternatives-returns-then-look-ne124
 emit_alternatives-returns-then-look-ne124 t c = let q = sym c.in-Ok-one.is ∙ c.sequence-one.ensures in let g = far c.args.s.now c.args.depth c.loop-end.i c.loop-end.invariant.within seq c.in-Ok-one.end c.in-Ok-one.more q in let b : look c.args.s.now c.in-Ok-one.end ≡ 124 → ⊥ = λ x. c.if-look-ne124.true (c.look.ensures ∙ x) in alts_end c.loop-end.invariant c.in-Ok-one.end c.in-Ok-one.more q b _ _ c.emit_sequence.ensures
@@ -133,16 +133,16 @@ pub emit_repeated-overflow_add-n : goal.emit_repeated-overflow_add-n
 emit_repeated-overflow_add-n t c = omega arith
 
 pub emit_repeated-put_fork-a-requires : goal.emit_repeated-put_fork-a-requires
-emit_repeated-put_fork-a-requires t c = let q = sym c.in-Ok.is ∙ c.atomic-one.ensures in let g = far c.args.s.now c.args.depth c.args.at c.requires.0 atom c.in-Ok.end c.in-Ok.sum q in let x₁ = is_inv (read c.args.s.now atom c.args.depth c.args.at) c.in-Ok.end c.in-Ok.sum q in let x = piece_is_star c.args.s.now c.args.depth c.args.at c.requires.0 c.in-Ok.end c.in-Ok.sum q (sym c.look-c.ensures ∙ c.if-c-eq42.true) in let u = room_number (read c.args.s.now piece c.args.depth c.args.at) (read c.args.s.now atom c.args.depth c.args.at) _ _ _ _ c.requires.3 (star_sized (read c.args.s.now piece c.args.depth c.args.at) (read c.args.s.now atom c.args.depth c.args.at) (inv (read c.args.s.now atom c.args.depth c.args.at) q).pat x₁ c.args.n c.args.f c.in-Ok.sum.size (sized_of (read c.args.s.now atom c.args.depth c.args.at) q) x) in (fork_first (read c.args.s.now piece c.args.depth c.args.at) (read c.args.s.now atom c.args.depth c.args.at) (inv (read c.args.s.now atom c.args.depth c.args.at) q).pat x₁ c.args.n c.args.f c.args.n (start_at c.in-Ok.sum.size (c.args.n + 1) c.args.n) c.args.f (star_sized (read c.args.s.now piece c.args.depth c.args.at) (read c.args.s.now atom c.args.depth c.args.at) (inv (read c.args.s.now atom c.args.depth c.args.at) q).pat x₁ c.args.n c.args.f c.in-Ok.sum.size (sized_of (read c.args.s.now atom c.args.depth c.args.at) q) x) (star_coded (read c.args.s.now piece c.args.depth c.args.at) (read c.args.s.now atom c.args.depth c.args.at) (inv (read c.args.s.now atom c.args.depth c.args.at) q).pat x₁ c.args.n c.args.f c.in-Ok.sum.size (sized_of (read c.args.s.now atom c.args.depth c.args.at) q) x) c.args.o (length c.args.out.now) c.requires.3 (omega arith), below _ _ 256 c.start_at-x.ensures (start_below c.in-Ok.sum.size (c.args.n + 1) c.args.n 256 c.requires.3.numbers (omega arith)), c.requires.3.follow)
+emit_repeated-put_fork-a-requires t c = let q = sym c.in-Ok.is ∙ c.atomic-one.ensures in let g = far c.args.s.now c.args.depth c.args.at c.requires.0 atom c.in-Ok.end c.in-Ok.sum q in let x₁ = is_inv (read c.args.s.now atom c.args.depth c.args.at) c.in-Ok.end c.in-Ok.sum q in let x = piece_is_star c.args.s.now c.args.depth c.args.at c.requires.0 c.in-Ok.end c.in-Ok.sum q (sym c.look-c.ensures ∙ c.if-c-eq42.true) in let u = room_number (read c.args.s.now piece c.args.depth c.args.at) (read c.args.s.now atom c.args.depth c.args.at) _ _ _ _ c.requires.3 (star_sized (read c.args.s.now piece c.args.depth c.args.at) (read c.args.s.now atom c.args.depth c.args.at) (inv (read c.args.s.now atom c.args.depth c.args.at) q).pat x₁ c.args.n c.args.f c.in-Ok.sum.size (sized_of (read c.args.s.now atom c.args.depth c.args.at) q) x) in (fork_first (read c.args.s.now piece c.args.depth c.args.at) (read c.args.s.now atom c.args.depth c.args.at) (inv (read c.args.s.now atom c.args.depth c.args.at) q).pat x₁ c.args.n c.args.f c.args.n (start_at c.in-Ok.sum.size (c.args.n + 1) c.args.n) c.args.f (star_sized (read c.args.s.now piece c.args.depth c.args.at) (read c.args.s.now atom c.args.depth c.args.at) (inv (read c.args.s.now atom c.args.depth c.args.at) q).pat x₁ c.args.n c.args.f c.in-Ok.sum.size (sized_of (read c.args.s.now atom c.args.depth c.args.at) q) x) (star_coded (read c.args.s.now piece c.args.depth c.args.at) (read c.args.s.now atom c.args.depth c.args.at) (inv (read c.args.s.now atom c.args.depth c.args.at) q).pat x₁ c.args.n c.args.f c.in-Ok.sum.size (sized_of (read c.args.s.now atom c.args.depth c.args.at) q) x) c.args.o (length c.args.out.now) c.requires.3 (omega arith), below _ _ 256 c.start_at-x.ensures (start_below c.in-Ok.sum.size (c.args.n + 1) c.args.n 256 u (omega arith)), c.requires.3.follow)
 
 pub emit_repeated-overflow_add-n-then-c-eq42 : goal.emit_repeated-overflow_add-n-then-c-eq42
 emit_repeated-overflow_add-n-then-c-eq42 t c = omega arith
 
 pub emit_repeated-emit_atomic-requires : goal.emit_repeated-emit_atomic-requires
-emit_repeated-emit_atomic-requires t c = let q = sym c.in-Ok.is ∙ c.atomic-one.ensures in let g = far c.args.s.now c.args.depth c.args.at c.requires.0 atom c.in-Ok.end c.in-Ok.sum q in let x₁ = is_inv (read c.args.s.now atom c.args.depth c.args.at) c.in-Ok.end c.in-Ok.sum q in let x = piece_is_star c.args.s.now c.args.depth c.args.at c.requires.0 c.in-Ok.end c.in-Ok.sum q (sym c.look-c.ensures ∙ c.if-c-eq42.true) in (omega arith, (c.requires.0, c.requires.1, c.requires.2, room_moved (read c.args.s.now atom c.args.depth c.args.at) (c.args.n + 1) c.args.n (c.args.o + 3) _ (length c.args.out.now) _ (sym c.put_fork-a.ensures.on) (sym c.put_fork-a.auto.0) (fork_then (read c.args.s.now piece c.args.depth c.args.at) (read c.args.s.now atom c.args.depth c.args.at) (inv (read c.args.s.now atom c.args.depth c.args.at) q).pat x₁ c.args.n c.args.f c.args.n (start_at c.in-Ok.sum.size (c.args.n + 1) c.args.n) c.args.f (star_sized (read c.args.s.now piece c.args.depth c.args.at) (read c.args.s.now atom c.args.depth c.args.at) (inv (read c.args.s.now atom c.args.depth c.args.at) q).pat x₁ c.args.n c.args.f c.in-Ok.sum.size (sized_of (read c.args.s.now atom c.args.depth c.args.at) q) x) (star_coded (read c.args.s.now piece c.args.depth c.args.at) (read c.args.s.now atom c.args.depth c.args.at) (inv (read c.args.s.now atom c.args.depth c.args.at) q).pat x₁ c.args.n c.args.f c.in-Ok.sum.size (sized_of (read c.args.s.now atom c.args.depth c.args.at) q) x) c.args.o (length c.args.out.now) c.requires.3 (omega arith))))
+emit_repeated-emit_atomic-requires t c = let q = sym c.in-Ok.is ∙ c.atomic-one.ensures in let g = far c.args.s.now c.args.depth c.args.at c.requires.0 atom c.in-Ok.end c.in-Ok.sum q in let x₁ = is_inv (read c.args.s.now atom c.args.depth c.args.at) c.in-Ok.end c.in-Ok.sum q in let x = piece_is_star c.args.s.now c.args.depth c.args.at c.requires.0 c.in-Ok.end c.in-Ok.sum q (sym c.look-c.ensures ∙ c.if-c-eq42.true) in (omega arith, (c.requires.0, c.requires.1, c.requires.2, room_moved (read c.args.s.now atom c.args.depth c.args.at) (c.args.n + 1) c.args.n (c.args.o + 3) _ (length c.args.out.now) _ (sym c.put_fork-a.ensures.on) (sym c.put_fork-a.auto.out) (fork_then (read c.args.s.now piece c.args.depth c.args.at) (read c.args.s.now atom c.args.depth c.args.at) (inv (read c.args.s.now atom c.args.depth c.args.at) q).pat x₁ c.args.n c.args.f c.args.n (start_at c.in-Ok.sum.size (c.args.n + 1) c.args.n) c.args.f (star_sized (read c.args.s.now piece c.args.depth c.args.at) (read c.args.s.now atom c.args.depth c.args.at) (inv (read c.args.s.now atom c.args.depth c.args.at) q).pat x₁ c.args.n c.args.f c.in-Ok.sum.size (sized_of (read c.args.s.now atom c.args.depth c.args.at) q) x) (star_coded (read c.args.s.now piece c.args.depth c.args.at) (read c.args.s.now atom c.args.depth c.args.at) (inv (read c.args.s.now atom c.args.depth c.args.at) q).pat x₁ c.args.n c.args.f c.in-Ok.sum.size (sized_of (read c.args.s.now atom c.args.depth c.args.at) q) x) c.args.o (length c.args.out.now) c.requires.3 (omega arith))))
 
 pub emit_repeated-shape_of-out-then-c-eq42 : goal.emit_repeated-shape_of-out-then-c-eq42
-emit_repeated-shape_of-out-then-c-eq42 t c = c.emit_atomic.auto.1.1.1.0 ∙ c.put_fork-a.auto.0
+emit_repeated-shape_of-out-then-c-eq42 t c = c.emit_atomic.auto.out ∙ c.put_fork-a.auto.out
 
 pub emit_repeated-returns-then-c-eq42 : goal.emit_repeated-returns-then-c-eq42
 emit_repeated-returns-then-c-eq42 t c = let q = sym c.in-Ok.is ∙ c.atomic-one.ensures in let g = far c.args.s.now c.args.depth c.args.at c.requires.0 atom c.in-Ok.end c.in-Ok.sum q in let x₁ = is_inv (read c.args.s.now atom c.args.depth c.args.at) c.in-Ok.end c.in-Ok.sum q in let x = piece_is_star c.args.s.now c.args.depth c.args.at c.requires.0 c.in-Ok.end c.in-Ok.sum q (sym c.look-c.ensures ∙ c.if-c-eq42.true) in wrote_whole _ _ _ _ _ _ (star_coded (read c.args.s.now piece c.args.depth c.args.at) (read c.args.s.now atom c.args.depth c.args.at) (inv (read c.args.s.now atom c.args.depth c.args.at) q).pat x₁ c.args.n c.args.f c.in-Ok.sum.size (sized_of (read c.args.s.now atom c.args.depth c.args.at) q) x) (chained _ _ _ _ _ _ _ _ (forked _ _ _ _ _ _ _ _ c.start_at-x.ensures refl c.put_fork-a.ensures) c.emit_atomic.ensures)
@@ -161,7 +161,7 @@ emit_repeated-put_fork-requires t c =     let q = sym c.in-Ok.is ∙ c.atomic-on
     let y = plus_fork (read c.args.s.now piece c.args.depth c.args.at) (read c.args.s.now atom c.args.depth c.args.at) (inv (read c.args.s.now atom c.args.depth c.args.at) q).pat x₁ c.args.n c.args.f c.in-Ok.sum.size (sized_of (read c.args.s.now atom c.args.depth c.args.at) q) x c.args.o (length c.args.out.now) c.requires.3 in (omega arith, below _ _ 256 c.start_at-x-then-c-eq43.ensures y.1, y.2)
 
 pub emit_repeated-shape_of-out-then-c-eq43 : goal.emit_repeated-shape_of-out-then-c-eq43
-emit_repeated-shape_of-out-then-c-eq43 t c = c.put_fork.auto.0 ∙ c.emit_atomic-a.auto.1.1.1.0
+emit_repeated-shape_of-out-then-c-eq43 t c = c.put_fork.auto.out ∙ c.emit_atomic-a.auto.out
 
 pub emit_repeated-returns-then-c-eq43 : goal.emit_repeated-returns-then-c-eq43
 emit_repeated-returns-then-c-eq43 t c = let q = sym c.in-Ok.is ∙ c.atomic-one.ensures in let g = far c.args.s.now c.args.depth c.args.at c.requires.0 atom c.in-Ok.end c.in-Ok.sum q in let x₁ = is_inv (read c.args.s.now atom c.args.depth c.args.at) c.in-Ok.end c.in-Ok.sum q in let x = piece_is_plus c.args.s.now c.args.depth c.args.at c.requires.0 c.in-Ok.end c.in-Ok.sum q (λ z. c.if-c-eq42.false (c.look-c.ensures ∙ z)) (sym c.look-c.ensures ∙ c.if-c-eq43.true) in wrote_whole _ _ _ _ _ _ (plus_coded (read c.args.s.now piece c.args.depth c.args.at) (read c.args.s.now atom c.args.depth c.args.at) (inv (read c.args.s.now atom c.args.depth c.args.at) q).pat x₁ c.args.n c.args.f c.in-Ok.sum.size (sized_of (read c.args.s.now atom c.args.depth c.args.at) q) x) (chained _ _ _ _ _ _ _ _ c.emit_atomic-a.ensures (forked _ _ _ _ _ _ _ _ c.start_at-x-then-c-eq43.ensures refl c.put_fork.ensures))
@@ -176,10 +176,10 @@ pub emit_repeated-overflow_add-n-then-c-eq63-2 : goal.emit_repeated-overflow_add
 emit_repeated-overflow_add-n-then-c-eq63-2 t c = omega arith
 
 pub emit_repeated-emit_atomic-requires-then-c-eq63 : goal.emit_repeated-emit_atomic-requires-then-c-eq63
-emit_repeated-emit_atomic-requires-then-c-eq63 t c = let q = sym c.in-Ok.is ∙ c.atomic-one.ensures in let g = far c.args.s.now c.args.depth c.args.at c.requires.0 atom c.in-Ok.end c.in-Ok.sum q in let x₁ = is_inv (read c.args.s.now atom c.args.depth c.args.at) c.in-Ok.end c.in-Ok.sum q in let x = piece_is_opt c.args.s.now c.args.depth c.args.at c.requires.0 c.in-Ok.end c.in-Ok.sum q (λ z. c.if-c-eq42.false (c.look-c.ensures ∙ z)) (λ z. c.if-c-eq43.false (c.look-c.ensures ∙ z)) (sym c.look-c.ensures ∙ c.if-c-eq63.true) in (omega arith, (c.requires.0, c.requires.1, c.requires.2, room_moved (read c.args.s.now atom c.args.depth c.args.at) (c.args.n + 1) c.args.f (c.args.o + 3) _ (length c.args.out.now) _ (sym c.put_fork-a-then-c-eq63.ensures.on) (sym c.put_fork-a-then-c-eq63.auto.0) (fork_then (read c.args.s.now piece c.args.depth c.args.at) (read c.args.s.now atom c.args.depth c.args.at) (inv (read c.args.s.now atom c.args.depth c.args.at) q).pat x₁ c.args.n c.args.f c.args.f (start_at c.in-Ok.sum.size (c.args.n + 1) c.args.f) c.args.f (opt_sized (read c.args.s.now piece c.args.depth c.args.at) (read c.args.s.now atom c.args.depth c.args.at) (inv (read c.args.s.now atom c.args.depth c.args.at) q).pat x₁ c.args.n c.args.f c.in-Ok.sum.size (sized_of (read c.args.s.now atom c.args.depth c.args.at) q) x) (opt_coded (read c.args.s.now piece c.args.depth c.args.at) (read c.args.s.now atom c.args.depth c.args.at) (inv (read c.args.s.now atom c.args.depth c.args.at) q).pat x₁ c.args.n c.args.f c.in-Ok.sum.size (sized_of (read c.args.s.now atom c.args.depth c.args.at) q) x) c.args.o (length c.args.out.now) c.requires.3 c.requires.3.follow)))
+emit_repeated-emit_atomic-requires-then-c-eq63 t c = let q = sym c.in-Ok.is ∙ c.atomic-one.ensures in let g = far c.args.s.now c.args.depth c.args.at c.requires.0 atom c.in-Ok.end c.in-Ok.sum q in let x₁ = is_inv (read c.args.s.now atom c.args.depth c.args.at) c.in-Ok.end c.in-Ok.sum q in let x = piece_is_opt c.args.s.now c.args.depth c.args.at c.requires.0 c.in-Ok.end c.in-Ok.sum q (λ z. c.if-c-eq42.false (c.look-c.ensures ∙ z)) (λ z. c.if-c-eq43.false (c.look-c.ensures ∙ z)) (sym c.look-c.ensures ∙ c.if-c-eq63.true) in (omega arith, (c.requires.0, c.requires.1, c.requires.2, room_moved (read c.args.s.now atom c.args.depth c.args.at) (c.args.n + 1) c.args.f (c.args.o + 3) _ (length c.args.out.now) _ (sym c.put_fork-a-then-c-eq63.ensures.on) (sym c.put_fork-a-then-c-eq63.auto.out) (fork_then (read c.args.s.now piece c.args.depth c.args.at) (read c.args.s.now atom c.args.depth c.args.at) (inv (read c.args.s.now atom c.args.depth c.args.at) q).pat x₁ c.args.n c.args.f c.args.f (start_at c.in-Ok.sum.size (c.args.n + 1) c.args.f) c.args.f (opt_sized (read c.args.s.now piece c.args.depth c.args.at) (read c.args.s.now atom c.args.depth c.args.at) (inv (read c.args.s.now atom c.args.depth c.args.at) q).pat x₁ c.args.n c.args.f c.in-Ok.sum.size (sized_of (read c.args.s.now atom c.args.depth c.args.at) q) x) (opt_coded (read c.args.s.now piece c.args.depth c.args.at) (read c.args.s.now atom c.args.depth c.args.at) (inv (read c.args.s.now atom c.args.depth c.args.at) q).pat x₁ c.args.n c.args.f c.in-Ok.sum.size (sized_of (read c.args.s.now atom c.args.depth c.args.at) q) x) c.args.o (length c.args.out.now) c.requires.3 c.requires.3.follow)))
 
 pub emit_repeated-shape_of-out-then-c-eq63 : goal.emit_repeated-shape_of-out-then-c-eq63
-emit_repeated-shape_of-out-then-c-eq63 t c = c.emit_atomic-then-c-eq63.auto.1.1.1.0 ∙ c.put_fork-a-then-c-eq63.auto.0
+emit_repeated-shape_of-out-then-c-eq63 t c = c.emit_atomic-then-c-eq63.auto.out ∙ c.put_fork-a-then-c-eq63.auto.out
 
 pub emit_repeated-returns-then-c-eq63 : goal.emit_repeated-returns-then-c-eq63
 emit_repeated-returns-then-c-eq63 t c = let q = sym c.in-Ok.is ∙ c.atomic-one.ensures in let g = far c.args.s.now c.args.depth c.args.at c.requires.0 atom c.in-Ok.end c.in-Ok.sum q in let x₁ = is_inv (read c.args.s.now atom c.args.depth c.args.at) c.in-Ok.end c.in-Ok.sum q in let x = piece_is_opt c.args.s.now c.args.depth c.args.at c.requires.0 c.in-Ok.end c.in-Ok.sum q (λ z. c.if-c-eq42.false (c.look-c.ensures ∙ z)) (λ z. c.if-c-eq43.false (c.look-c.ensures ∙ z)) (sym c.look-c.ensures ∙ c.if-c-eq63.true) in wrote_whole _ _ _ _ _ _ (opt_coded (read c.args.s.now piece c.args.depth c.args.at) (read c.args.s.now atom c.args.depth c.args.at) (inv (read c.args.s.now atom c.args.depth c.args.at) q).pat x₁ c.args.n c.args.f c.in-Ok.sum.size (sized_of (read c.args.s.now atom c.args.depth c.args.at) q) x) (chained _ _ _ _ _ _ _ _ (forked _ _ _ _ _ _ _ _ c.start_at-x-then-c-eq63.ensures refl c.put_fork-a-then-c-eq63.ensures) c.emit_atomic-then-c-eq63.ensures)
