@@ -3,6 +3,7 @@ use Prim.Native.Nat.{ℕ, zero, suc, ◌+◌, ◌-◌, ◌≤◌, ◌<◌}
 use mathlib.Core.Path.{◌≡◌, refl, sym, ap, subst, ◌∙◌}
 use mathlib.Core.Bool.{Bool, true, false, ◌||◌}
 use mathlib.Core.List.{List, [], ◌∷◌, ◌++◌, append-nil}
+use mathlib.Core.Logic.{inl, inr}
 use native.Mathlib.Omega.{arith}
 use native.Mathlib.Numerals.{add-one}
 use native.Mathlib.Nat.{not-suc-le-zero}
@@ -41,6 +42,11 @@ from_below i from st h e = subst (Sound i) e h
 
 pub alone : (b : ℕ) (x : Item) → lists b x ≡ listed b (x ∷ [])
 alone b x = sym (or_false (lists b x))
+
+pub not_whole : (r : Word) → ((k : ℕ) → r ≡ Whole k → ⊥) → OneOf (1 ∷ 2 ∷ []) (tag_of word.the_type r)
+not_whole (Whole k) h = absurd (h k refl)
+not_whole Begun h = inl refl
+not_whole Nothing h = inr refl
 
 no_class : (r : Word) → OneOf (1 ∷ 2 ∷ []) (tag_of word.the_type r) → [] ≡ class_of (told r)
 unfolding told
@@ -87,6 +93,17 @@ module _ (s : List ℕ) (from i : ℕ) (h : from ≤ i) (l : i < length s) (r : 
 pub listed_more : (b : ℕ) (xs ys : List Item) → listed b (xs ++ ys) ≡ listed b xs || listed b ys
 listed_more b [] ys = refl
 listed_more b (x ∷ xs) ys = ap (λ t. lists b x || t) (listed_more b xs ys) ∙ sym (or_assoc (lists b x) (listed b xs) (listed b ys))
+
+pub no_gainer : (st : Stand) → ((a : ℕ) → st ≡ Held a → ⊥) → ((a : ℕ) → st ≡ Dash a → ⊥) → ((a : ℕ) → st ≡ DashQuote a → ⊥) → ((a : ℕ) → st ≡ Name a → ⊥) → OneOf (0 ∷ 1 ∷ 3 ∷ 7 ∷ 8 ∷ []) (tag_of the_type st)
+no_gainer Fresh h d q n = inl refl
+no_gainer Ready h d q n = inr (inl refl)
+no_gainer (Held a) h d q n = absurd (h a refl)
+no_gainer Quote h d q n = inr (inr (inl refl))
+no_gainer (Dash a) h d q n = absurd (d a refl)
+no_gainer (DashQuote a) h d q n = absurd (q a refl)
+no_gainer (Name a) h d q n = absurd (n a refl)
+no_gainer Shut h d q n = inr (inr (inr (inl refl)))
+no_gainer Bad h d q n = inr (inr (inr (inr refl)))
 
 -- nothing is gained at the other stands
 pub gains_none : (s : List ℕ) (i c : ℕ) (st : Stand) → OneOf (0 ∷ 1 ∷ 3 ∷ 7 ∷ 8 ∷ []) (tag_of the_type st) → [] ≡ gained (stands s i st) c
@@ -136,6 +153,17 @@ module _ (s : List ℕ) (i : ℕ) (st : Step) (xs : List Item) (h : i < length s
 
   scan_on : OneOf (0 ∷ 1 ∷ 2 ∷ 3 ∷ 4 ∷ 5 ∷ 6 ∷ []) (tag_of the_type r) → sets.scan (drop i s) i st xs ≡ sets.scan (drop (i + 1) s) (i + 1) (stands s (i + 1) r) (xs ++ gained st (get_or s i 0))
   scan_on o = here ∙ goes r (sets.scan (drop (i + 1) s)) (xs ++ gained st (get_or s i 0)) o
+
+pub goes_on : (r : Stand) → (r ≡ Shut → ⊥) → (r ≡ Bad → ⊥) → OneOf (0 ∷ 1 ∷ 2 ∷ 3 ∷ 4 ∷ 5 ∷ 6 ∷ []) (tag_of the_type r)
+goes_on Fresh s b = inl refl
+goes_on Ready s b = inr (inl refl)
+goes_on (Held a) s b = inr (inr (inl refl))
+goes_on Quote s b = inr (inr (inr (inl refl)))
+goes_on (Dash a) s b = inr (inr (inr (inr (inl refl))))
+goes_on (DashQuote a) s b = inr (inr (inr (inr (inr (inl refl)))))
+goes_on (Name a) s b = inr (inr (inr (inr (inr (inr refl)))))
+goes_on Shut s b = absurd (s refl)
+goes_on Bad s b = absurd (b refl)
 
 -- a reading from i on has come to j: after any items xs the answer is the answer from j, after these items and those gained.
 -- What holds of xs by O holds of them all by P.

@@ -36,6 +36,11 @@ refused (Ok e m) h = ⊎_elim (λ x. omega arith) (λ x. omega arith) h
 refused (Form q) h = tt
 refused (Deep q) h = tt
 
+pub not_ok : (r : Read) → ((e : ℕ) (m : Sum) → r ≡ Ok e m → ⊥) → Refused r
+not_ok (Ok e m) h = h e m refl
+not_ok (Form q) h = tt
+not_ok (Deep q) h = tt
+
 -- what an answer that went well says of the reading
 pub record Inv (r : Res) (e : ℕ) (m : Sum) : Type 0 where
   pub pat : Pat

@@ -3,6 +3,7 @@ use Prim.Native.Nat.{ℕ, zero, suc, ◌+◌, ◌-◌, ◌*◌, ◌/◌, ◌%◌
 use mathlib.Core.Path.{◌≡◌, refl, sym, ap, subst, ◌∙◌}
 use mathlib.Core.Bool.{Bool, true, false}
 use mathlib.Core.List.{List, [], ◌∷◌, ◌++◌}
+use mathlib.Core.Logic.{inl, inr}
 use native.Mathlib.Omega.{arith}
 use native.Mathlib.Numerals.{add-one}
 use native.Mathlib.Nat.{not-suc-le-zero}
@@ -69,6 +70,11 @@ module _ (w v : List ℕ) (k t : ℕ) where
 
   pub against_begun : length w ≤ t → t < length v → against (drop t w) (drop t v) k ≡ begun
   against_begun h l = ap (λ x. against x (drop t v) k) (drop_of_length-le w h) ∙ ap (λ x. against [] x k) (drop-cons v t 0 l)
+
+pub not_nothing : (r : Word) → (r ≡ Nothing → ⊥) → OneOf (0 ∷ 1 ∷ []) (tag_of the_type r)
+not_nothing (Whole j) h = inl refl
+not_nothing Begun h = inr refl
+not_nothing Nothing h = absurd (h refl)
 
 some : (r : Word) → OneOf (0 ∷ 1 ∷ []) (tag_of the_type r) → (n : Named) → told r ≡ or_else (told r) n
 unfolding told

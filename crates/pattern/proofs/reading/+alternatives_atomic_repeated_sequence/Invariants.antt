@@ -22,3 +22,15 @@ invariant-sequence-loop-sum l = Passed l.s seq l.depth l.at l.sum l.i
 
 abbrev pub decreases-sequence-loop-sum : goal.decreases-sequence-loop-sum
 decreases-sequence-loop-sum l = length l.s - l.i
+
+abbrev pub decreases-alternatives : goal.decreases-alternatives
+decreases-alternatives l = left l.s.now alts l.at
+
+abbrev pub decreases-atomic : goal.decreases-atomic
+decreases-atomic l = left l.s.now atom l.at
+
+abbrev pub decreases-repeated : goal.decreases-repeated
+decreases-repeated l = left l.s.now piece l.at
+
+abbrev pub decreases-sequence : goal.decreases-sequence
+decreases-sequence l = left l.s.now seq l.at

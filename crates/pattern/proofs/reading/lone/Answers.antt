@@ -1,7 +1,6 @@
 -- `lone` meets its contract, atom by atom. Assumes nothing.
 use mathlib.Core.Path.{◌≡◌, refl, sym, ap, ◌∙◌, subst}
 use mathlib.Core.Bool.{true, false}
-use mathlib.Core.Logic.{⊎_elim}
 use Prim.Native.Nat.{ℕ, ◌+◌, ◌-◌, ◌≤◌, ◌<◌}
 use native.Mathlib.Omega.{arith}
 use Rattle.ground.specs.Pick.{look}
@@ -11,6 +10,7 @@ use Rattle.pattern.specs.Measured.{measured, sum_of}
 use Rattle.pattern.proofs.Laws.{byte_of, single_cut, single_escaped, single_tag, single_low, single_high, single_dot, single_set, single_barred, single_plain}
 use Rattle.pattern.proofs.Steps.{told}
 use borrow.Author.Rules.{rules}
+use Rattle.pattern.proofs.reading.lone.Goals.{then-t-ge48+else-t-le55, else-t-ge48}
 use Rattle.pattern.proofs.reading.lone.Goals as goal
 
 pub returns-then-look-eq256 : goal.returns-then-look-eq256
@@ -25,9 +25,10 @@ returns-then-t-le55 c = told (single c.args.s.now c.args.at) (c.args.at + 2) c.o
 
 pub returns-then-c-eq64 : goal.returns-then-c-eq64
 unfolding measured
-returns-then-c-eq64 c =     ⊎_elim (λ w. sym (ap measured (single_high c.args.s.now c.args.at (sym c.look-c.ensures ∙ c.if-c-eq64.true) (subst (λ (n : ℕ). 48 ≤ n) c.look-t.ensures w.0.taken) (subst (λ (n : ℕ). 55 < n) c.look-t.ensures w.1.left))))
-    (λ w. sym (ap measured (single_low c.args.s.now c.args.at (sym c.look-c.ensures ∙ c.if-c-eq64.true) (subst (λ (n : ℕ). n < 48) c.look-t.ensures w.left))))
-    c.if-t-ge48.branch
+returns-then-c-eq64 c = elim c.if-t-ge48.branch [
+  | then-t-ge48+else-t-le55 w ↦ sym (ap measured (single_high c.args.s.now c.args.at (sym c.look-c.ensures ∙ c.if-c-eq64.true) (subst (λ (n : ℕ). 48 ≤ n) c.look-t.ensures w.if-t-ge48.true) (subst (λ (n : ℕ). 55 < n) c.look-t.ensures w.if-t-le55.false)))
+  | else-t-ge48 w ↦ sym (ap measured (single_low c.args.s.now c.args.at (sym c.look-c.ensures ∙ c.if-c-eq64.true) (subst (λ (n : ℕ). n < 48) c.look-t.ensures w.if-t-ge48.false)))
+]
 
 pub returns-then-c-eq46 : goal.returns-then-c-eq46
 returns-then-c-eq46 c = told (single c.args.s.now c.args.at) (c.args.at + 1) c.one-then-c-eq46.result Any (single_dot c.args.s.now c.args.at (sym c.look-c.ensures ∙ c.if-c-eq46.true)) (sym c.one-then-c-eq46.ensures)

@@ -5,14 +5,14 @@ use mathlib.Core.Path.{◌≡◌, refl, sym, ap, ◌∙◌}
 use native.Mathlib.Omega.{arith}
 use lib.ListN.{length, drop}
 use Rattle.pattern.specs.Sets.{seek, names}
-use Rattle.pattern.proofs.Words.{seek_hit, seek_miss, seek_end}
+use Rattle.pattern.proofs.Words.{not_nothing, seek_hit, seek_miss, seek_end}
 use Rattle.pattern.proofs.sets.find.Goals as goal
 
 pub loop-k-init : goal.loop-k-init
 loop-k-init c = (search rules, refl)
 
 pub returns-in_default : goal.returns-in_default
-returns-in_default c = seek_hit c.args.w.now c.loop-k.k (omega arith) c.compare-r.result c.compare-r.ensures c.in_default.keys2 ∙ sym c.loop-k.invariant.1
+returns-in_default c = seek_hit c.args.w.now c.loop-k.k (omega arith) c.compare-r.result c.compare-r.ensures (not_nothing c.compare-r.result c.in_default.not-Nothing) ∙ sym c.loop-k.invariant.1
 
 pub loop-k-preserved : goal.loop-k-preserved
 loop-k-preserved c = (omega arith, c.loop-k.invariant.1 ∙ seek_miss c.args.w.now c.loop-k.k (omega arith) c.compare-r.result c.compare-r.ensures c.in-Nothing.is)

@@ -7,7 +7,7 @@ use Rattle.pattern.specs.Standing.{stands}
 use Rattle.pattern.specs.declared.sets.Stand.TheVariants.{Held, Dash, DashQuote, Name}
 use Rattle.pattern.specs.declared.sets.Gain.TheVariants.{Nothing, Span}
 use Rattle.ground.proofs.Picks.{picked, passed}
-use Rattle.pattern.proofs.SetSteps.{gets, from_below, gains_none}
+use Rattle.pattern.proofs.SetSteps.{gets, from_below, no_gainer, gains_none}
 use borrow.Author.Rules.{rules}
 use Rattle.pattern.proofs.sets.item_at.Goals as goal
 
@@ -38,4 +38,4 @@ pub returns-in-Name : goal.returns-in-Name
 returns-in-Name c = let x = get_or c.args.s.now c.args.i 0 in gets c.args.s.now c.args.i c.args.st (Name c.in-Name.from) c.class_at.result x c.in-Name.is (sym c.class_at.ensures)
 
 pub returns-in_default : goal.returns-in_default
-returns-in_default c = let x = get_or c.args.s.now c.args.i 0 in gains_none c.args.s.now c.args.i x c.args.st c.in_default.keys5
+returns-in_default c = let x = get_or c.args.s.now c.args.i 0 in gains_none c.args.s.now c.args.i x c.args.st (no_gainer c.args.st c.in_default.not-Held c.in_default.not-Dash c.in_default.not-DashQuote c.in_default.not-Name)

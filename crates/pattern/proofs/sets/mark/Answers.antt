@@ -6,7 +6,7 @@ use borrow.Author.Rules.{rules}
 use native.Mathlib.Omega.{arith}
 use lib.ListN.{length}
 use Rattle.pattern.specs.Standing.{Marks}
-use Rattle.pattern.proofs.SetSteps.{Come, come_none, come_end, come_bad, come_shut, come_on, listed_wrong, listed_at}
+use Rattle.pattern.proofs.SetSteps.{Come, goes_on, come_none, come_end, come_bad, come_shut, come_on, listed_wrong, listed_at}
 use Rattle.pattern.proofs.sets.mark.Goals as goal
 
 pub loop-at-init : goal.loop-at-init
@@ -28,7 +28,7 @@ pub returns-in-Shut : goal.returns-in-Shut
 returns-in-Shut c = λ xs k. listed_at _ _ _ (c.loop-at.invariant.1.items xs) _ _ (come_shut c.loop-at.invariant.1 (omega arith) c.step_on-next.result c.step_on-next.ensures c.in-Shut.is xs) c.item_at-x.ensures (c.mark_item.ensures (c.loop-at.invariant.1.items xs) (c.loop-at.invariant.1.kept xs k))
 
 pub loop-at-preserved : goal.loop-at-preserved
-loop-at-preserved c = (c.mark_item.auto.1.0 ∙ c.loop-at.invariant.0, come_on c.loop-at.invariant.1 (omega arith) c.step_on-next.result c.step_on-next.ensures (Marks c.mark_item.new.1.0) c.in_default.keys3 (λ ys k. subst (λ l. Marks c.mark_item.new.1.0 (ys ++ l)) c.item_at-x.ensures (c.mark_item.ensures ys k)))
+loop-at-preserved c = (c.mark_item.auto.marks ∙ c.loop-at.invariant.0, come_on c.loop-at.invariant.1 (omega arith) c.step_on-next.result c.step_on-next.ensures (Marks c.mark_item.new.marks) (goes_on c.step_on-next.result c.in_default.not-Shut c.in_default.not-Bad) (λ ys k. subst (λ l. Marks c.mark_item.new.marks (ys ++ l)) c.item_at-x.ensures (c.mark_item.ensures ys k)))
 
 pub returns : goal.returns
 returns c = λ xs k. listed_wrong _ _ _ (come_end c.loop-at.invariant.1 (omega arith) xs)

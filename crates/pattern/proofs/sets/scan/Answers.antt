@@ -5,7 +5,7 @@ use borrow.Author.Rules.{rules}
 use native.Mathlib.Omega.{arith}
 use lib.ListN.{length}
 use Rattle.pattern.specs.Standing.{seen}
-use Rattle.pattern.proofs.SetSteps.{Come, come_none, come_end, come_bad, come_shut, come_on}
+use Rattle.pattern.proofs.SetSteps.{Come, goes_on, come_none, come_end, come_bad, come_shut, come_on}
 use Rattle.pattern.proofs.sets.scan.Goals as goal
 
 pub loop-at-init : goal.loop-at-init
@@ -23,7 +23,7 @@ unfolding seen
 returns-in-Shut c = λ xs. sym (ap seen (come_shut c.loop-at.invariant (omega arith) c.step_on-next.result c.step_on-next.ensures c.in-Shut.is xs))
 
 pub loop-at-preserved : goal.loop-at-preserved
-loop-at-preserved c = come_on c.loop-at.invariant (omega arith) c.step_on-next.result c.step_on-next.ensures _ c.in_default.keys3 (λ ys k. tt)
+loop-at-preserved c = come_on c.loop-at.invariant (omega arith) c.step_on-next.result c.step_on-next.ensures _ (goes_on c.step_on-next.result c.in_default.not-Shut c.in_default.not-Bad) (λ ys k. tt)
 
 pub returns : goal.returns
 unfolding seen
