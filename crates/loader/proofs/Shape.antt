@@ -17,16 +17,19 @@ use Rattle.card.specs.Run.{In, hd, tl, sit, no_sit, row_for, row_in}
 
 module _ (R N : ℕ) where
   pub rows_lead : (lo : ℕ) (l : List Row) → Upward R N lo l → (x : Row) → In x l → x.next < N
+  rows_lead lo [] u x i = elim i [ ]
   rows_lead lo (r ∷ l) u x hd = u.3
   rows_lead lo (r ∷ l) u x (tl i) = rows_lead (suc r.hi) l u.5 x i
 
   pub rows_rise : (lo : ℕ) (l : List Row) → Upward R N lo l → (x : Row) → In x l → Rising R 0 x.cmds
+  rows_rise lo [] u x i = elim i [ ]
   rows_rise lo (r ∷ l) u x hd = u.4
   rows_rise lo (r ∷ l) u x (tl i) = rows_rise (suc r.hi) l u.5 x i
 
   -- each row is its last byte's
   pub row_byte : (lo : ℕ) (l : List Row) → Upward R N lo l → (x : Row) → In x l → (lo ≤ x.hi) × (x.hi ≤ 255) × (row_for l x.hi ≡ x)
   unfolding row_for pick
+  row_byte lo [] u x i = elim i [ ]
   row_byte lo (r ∷ l) u x hd = (
     omega arith,
     u.2,

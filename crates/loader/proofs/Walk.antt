@@ -94,6 +94,7 @@ no_asks s at m i e d a = all_done s at i e d a.0 a.1.0 a.1.1.0 a.1.1.1.0 a.1.1.1
 -- ---- the fields
 
 in_index : (l : List ℕ) (x : ℕ) → In x l → (j : ℕ) × ((j < length l) × (get_or l j 0 ≡ x))
+in_index [] x i = elim i [ ]
 in_index (y ∷ l) x hd = (0, (omega arith, refl))
 in_index (y ∷ l) x (tl i) = let k = in_index l x i in (suc k.0, (omega (arith, k.1.0), k.1.1))
 

@@ -6,6 +6,7 @@ use borrow.Author.Rules.{rules}
 use mathlib.Core.Logic.{⊎_elim}
 use Rattle.image.proofs.Written.{Filling, filling_none, filling_new, filling_same, filling_all}
 use Rattle.image.proofs.fill_row.Goals as goal
+use Rattle.image.proofs.fill_row.Goals.{then-p-i, else-p-i}
 
 pub loop-b-init : goal.loop-b-init
 loop-b-init c = filling_none _ _ _ _ _ c.entry_at-e.ensures
@@ -23,8 +24,10 @@ pub overflow_add-b : goal.overflow_add-b
 overflow_add-b c = omega (arith, c.loop-b.invariant.most)
 
 pub loop-b-preserved : goal.loop-b-preserved
-loop-b-preserved c =     ⊎_elim (λ w. filling_new c.requires.room c.loop-b.invariant c.loop-b-test.true _ c.row_spot-p.ensures w.2 (w.3 ∙ w.1.ensures))
-    (λ w. filling_same c.requires.room c.loop-b.invariant c.loop-b-test.true _ c.row_spot-p.ensures w.0.left w.1 w.2) c.if-p-i.branch
+loop-b-preserved c = elim c.if-p-i.branch [
+    then-p-i w ↦ filling_new c.requires.room c.loop-b.invariant c.loop-b-test.true _ c.row_spot-p.ensures w.i-is (w.e-is ∙ w.entry_at-e-then-p-i.ensures)
+  | else-p-i w ↦ filling_same c.requires.room c.loop-b.invariant c.loop-b-test.true _ c.row_spot-p.ensures w.if-p-i.false w.i-is w.e-is
+]
 
 pub shape_of-image : goal.shape_of-image
 shape_of-image c = c.loop-b.invariant.done.long

@@ -9,6 +9,7 @@ use lib.ListN.{length}
 use Rattle.loader.proofs.Listing.{says_yes, says_no}
 use Rattle.loader.proofs.Walk.{Unread, field_asks, no_fields, next_field, high_field}
 use Rattle.loader.proofs.fields_ask.Goals as goal
+use Rattle.loader.proofs.fields_ask.Goals.{then-f-lt64+else-holds, else-f-lt64}
 
 pub loop-t-init : goal.loop-t-init
 loop-t-init c = (omega arith, λ j l. absurd (omega arith))
@@ -20,8 +21,15 @@ pub returns-then-holds : goal.returns-then-holds
 returns-then-holds c = field_asks _ _ _ c.requires _ c.loop-t-test.true c.if-f-lt64.true (says_yes c.if-holds.true c.holds.ensures)
 
 pub loop-t-preserved : goal.loop-t-preserved
-loop-t-preserved c =     let fit : Fits w64 c.args.m = search rules in
-    (omega arith, next_field c.args.s.now c.args.at c.args.m c.loop-t.t c.loop-t.invariant.1 (⊎_elim (λ w. says_no w.2.left w.1.ensures) (λ w. high_field _ _ fit.fits w.left) c.if-f-lt64.branch))
+loop-t-preserved c =
+    let fit : Fits w64 c.args.m = c.ranges.m in
+    (
+      omega arith,
+      next_field c.args.s.now c.args.at c.args.m c.loop-t.t c.loop-t.invariant.1 (elim c.if-f-lt64.branch [
+          then-f-lt64+else-holds w ↦ says_no w.if-holds.false w.holds.ensures
+        | else-f-lt64 w ↦ high_field _ _ fit.fits w.if-f-lt64.false
+      ]),
+    )
 
 pub returns : goal.returns
 returns c = no_fields _ _ _ c.requires _ c.loop-t-test.false c.loop-t.invariant.1

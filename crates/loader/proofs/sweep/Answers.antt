@@ -8,6 +8,7 @@ use lib.ListN.{get_or}
 use Rattle.loader.proofs.Situated.{count_most, room_here, rows_of}
 use Rattle.loader.proofs.Sweeping.{Sweeping, sweeping_none, sweeping_same, sweeping_more, sweeping_all}
 use Rattle.loader.proofs.sweep.Goals as goal
+use Rattle.loader.proofs.sweep.Goals.{then-all-old, else-all-old}
 
 pub loop-q-init : goal.loop-q-init
 loop-q-init c = (omega arith, sweeping_none c.requires.1)
@@ -43,12 +44,13 @@ pub flow_rows-requires : goal.flow_rows-requires
 flow_rows-requires c = (rows_of c.requires.0 (omega (arith, c.sit_count-count.ensures.0)), c.loop-q.invariant.1.round.words)
 
 pub loop-q-preserved : goal.loop-q-preserved
-loop-q-preserved c =     let l : c.loop-q.q < get_or c.args.s.now 4 0 = omega (arith, c.sit_count-count.ensures.0) in (
+loop-q-preserved c =
+    let l : c.loop-q.q < get_or c.args.s.now 4 0 = omega (arith, c.sit_count-count.ensures.0) in (
       omega arith,
-      ⊎_elim
-          (λ w. rw (w.4, w.5, w.6) (sweeping_more c.loop-q.invariant.1 c.requires.0 l _ refl w.0.taken w.3.ensures))
-          (λ w. rw (w.1, w.2, w.3) (sweeping_same c.loop-q.invariant.1 w.0.left))
-          c.if-all-old.branch,
+      elim c.if-all-old.branch [
+          then-all-old w ↦ rw (w.may-is, w.seen-is, w.changed-is) (sweeping_more c.loop-q.invariant.1 c.requires.0 l _ refl w.if-all-old.true w.flow_rows.ensures)
+        | else-all-old w ↦ rw (w.may-is, w.seen-is, w.changed-is) (sweeping_same c.loop-q.invariant.1 w.if-all-old.false)
+      ],
     )
 
 pub returns : goal.returns

@@ -10,6 +10,7 @@ use mir.Syntax.{w16}
 use mir.ValLaws.{to_z-of_z}
 use Rattle.run.proofs.Filling.{Filled, filled_none, filled_held, filled_absent, filled_all}
 use Rattle.run.proofs.fields_at.Goals as goal
+use Rattle.run.proofs.fields_at.Goals.{then-f-lt64, else-f-lt64}
 
 pub loop-t-init : goal.loop-t-init
 loop-t-init c = filled_none _ _ _
@@ -30,12 +31,12 @@ pub overflow_add-t : goal.overflow_add-t
 overflow_add-t c = omega (arith, c.loop-t.invariant.most)
 
 pub loop-t-preserved : goal.loop-t-preserved
-loop-t-preserved c =     ⊎_elim
-    (λ w.
-    let fit : SFits w16 (get_or c.args.bank.now c.wide-f.result (pos 0)) = record { sfits = w.1.given } in
-    rw (w.2, to_z-of_z w16 (get_or c.args.bank.now c.wide-f.result (pos 0)) fit) (filled_held c.loop-t.invariant c.loop-t-test.true _ c.wide-f.ensures w.0.taken))
-    (λ w. rw w.1 (filled_absent c.loop-t.invariant c.loop-t-test.true _ c.wide-f.ensures w.0.left))
-    c.if-f-lt64.branch
+loop-t-preserved c = elim c.if-f-lt64.branch [
+    then-f-lt64 w ↦
+      let fit : SFits w16 (get_or c.args.bank.now c.wide-f.result (pos 0)) = search rules in
+      rw (w.out-is, to_z-of_z w16 (get_or c.args.bank.now c.wide-f.result (pos 0)) fit) (filled_held c.loop-t.invariant c.loop-t-test.true _ c.wide-f.ensures w.if-f-lt64.true)
+  | else-f-lt64 w ↦ rw w.out-is (filled_absent c.loop-t.invariant c.loop-t-test.true _ c.wide-f.ensures w.if-f-lt64.false)
+]
 
 pub returns : goal.returns
 returns c = filled_all c.requires.0 c.loop-t.invariant c.loop-t-test.false

@@ -28,11 +28,8 @@ returns-then-answer c =     c.refusal.ensures
 pub overflow_add-p : goal.overflow_add-p
 overflow_add-p c = let h = answer_room c.requires.ready {q = c.wide-q.result} (omega (arith, c.run_line-stand.ensures.1, c.wide-q.ensures)) in omega (arith, c.well_formed.0.1)
 
-pub slice_bounds-fields_at-end : goal.slice_bounds-fields_at-end
-slice_bounds-fields_at-end c = sym (unmapped _ c.run_line-stand.result.bank.r 64 c.run_line-stand.type-inv.1.1.1.0.1.1.0.1.0.1)
-
 pub fields_at-fields-requires : goal.fields_at-fields-requires
-fields_at-fields-requires c = ((eight c.requires.ready {q = c.wide-q.result} (omega (arith, c.run_line-stand.ensures.1, c.wide-q.ensures))).room, let n = slice-aggregate-fields-at c in omega arith)
+fields_at-fields-requires c = ((eight c.requires.ready {q = c.wide-q.result} (omega (arith, c.run_line-stand.ensures.1, c.wide-q.ensures))).room, search rules)
 
 pub returns : goal.returns
 returns c =     let n : c.wide-q.result < get_or c.args.s.now 4 0 = omega (arith, c.run_line-stand.ensures.1, c.wide-q.ensures) in

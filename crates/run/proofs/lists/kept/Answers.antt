@@ -12,11 +12,8 @@ use mir.Syntax.{w16}
 use mir.ValLaws.{to_z-of_z}
 use Rattle.card.specs.Run.{Bank, reg}
 use borrow.Author.Rules.{rules}
+use Rattle.run.proofs.lists.kept.Invariants.{Kept}
 use Rattle.run.proofs.lists.kept.Goals as goal
-
--- the first t cells are kept
-abbrev Kept : Bank → Bank → ℕ → Type 0
-Kept bank out t = (t ≤ 64) × (length out ≡ 64) × (take t out ≡ take t bank)
 
 one_more : (bank out : Bank) (t : ℕ) → 64 ≤ length bank → t < 64 → Kept bank out t → Kept bank (set out t (reg bank t)) (t + 1)
 one_more bank out t h k (m, n, e) = (

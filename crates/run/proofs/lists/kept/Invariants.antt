@@ -13,6 +13,11 @@ use mir.ValLaws.{to_z-of_z}
 use Rattle.card.specs.Run.{Bank, reg}
 use borrow.Author.Rules.{rules}
 use Rattle.run.proofs.lists.kept.Given as goal
+
+-- the first t cells are kept
+abbrev pub Kept : Bank → Bank → ℕ → Type 0
+Kept bank out t = (t ≤ 64) × (length out ≡ 64) × (take t out ≡ take t bank)
+
 abbrev pub invariant-loop-t : goal.invariant-loop-t
 invariant-loop-t l = Kept l.bank l.out l.t
 

@@ -12,6 +12,7 @@ use Rattle.card.proofs.Laws.{put_facts, move_facts}
 use Rattle.run.proofs.Pairing.{tried_none, then_put, then_move}
 use borrow.Author.Rules.{rules}
 use Rattle.run.proofs.lists.pair.Goals as goal
+use Rattle.run.proofs.lists.pair.Goals.{in-Put, in-Move}
 
 pub returns-in-Stop : goal.returns-in-Stop
 returns-in-Stop c = tried_none _ _ _ _ _ (sym c.read_cmd-o.ensures ∙ c.in-Stop.is)
@@ -29,12 +30,22 @@ pub overflow_add-i-in-Move : goal.overflow_add-i-in-Move
 overflow_add-i-in-Move c = let f = move_facts _ _ _ _ (sym c.read_cmd-o.ensures ∙ c.in-Move.is) in omega arith
 
 pub pair_rest-requires : goal.pair_rest-requires
-pair_rest-requires c = (c.requires.0, ⊎_elim (λ w. let f = put_facts _ _ _ (sym c.read_cmd-o.ensures ∙ w.1.given.1) in let h = w.4 in omega arith) (λ w. let f = move_facts _ _ _ _ (sym c.read_cmd-o.ensures ∙ w.1.given.1) in let h = w.5 in omega arith) c.match-o.branch, c.requires.1)
+pair_rest-requires c = (
+  c.requires.0,
+  elim c.match-o.branch [
+      in-Put w ↦ let f = put_facts _ _ _ (sym c.read_cmd-o.ensures ∙ w.in-Put.is) in let h = w.to-is in omega arith
+    | in-Move w ↦ let f = move_facts _ _ _ _ (sym c.read_cmd-o.ensures ∙ w.in-Move.is) in let h = w.to-is in omega arith
+  ],
+  c.requires.1,
+)
 
 pub returns : goal.returns
-returns c =     ⊎_elim
-    (λ w. then_put c.args.s.now c.args.at c.args.place c.args.bank.now c.args.bank.now _ (sym c.read_cmd-o.ensures ∙ w.1.given.1) c.match-o.i c.match-o.to (to_z w16 c.match-o.x-bits) c.pair_rest.ensures w.5 w.4
-    (ap (to_z w16) w.3 ∙ rw c.held-x.ensures (to_z-of_z w16 (pos c.args.place) (place_fits c.args.place c.requires.0))))
-    (λ w. let g : SFits w16 (get_or c.args.bank.now w.1.given.0.1.0 (pos 0)) = search rules in
-    then_move c.args.s.now c.args.at c.args.place c.args.bank.now c.args.bank.now _ _ (sym c.read_cmd-o.ensures ∙ w.1.given.1) c.match-o.i c.match-o.to (to_z w16 c.match-o.x-bits) c.pair_rest.ensures w.6 w.5
-    (ap (to_z w16) w.4 ∙ to_z-of_z w16 (get_or c.args.bank.now w.1.given.0.1.0 (pos 0)) g)) c.match-o.branch
+returns c = elim c.match-o.branch [
+    in-Put w ↦
+      then_put c.args.s.now c.args.at c.args.place c.args.bank.now c.args.bank.now _ (sym c.read_cmd-o.ensures ∙ w.in-Put.is) c.match-o.i c.match-o.to (to_z w16 c.match-o.x-bits) c.pair_rest.ensures w.i-is w.to-is
+      (w.x-is ∙ rw c.held-x.ensures (to_z-of_z w16 (pos c.args.place) (place_fits c.args.place c.requires.0)))
+  | in-Move w ↦
+      let g : SFits w16 (get_or c.args.bank.now w.in-Move.f (pos 0)) = search rules in
+      then_move c.args.s.now c.args.at c.args.place c.args.bank.now c.args.bank.now _ _ (sym c.read_cmd-o.ensures ∙ w.in-Move.is) c.match-o.i c.match-o.to (to_z w16 c.match-o.x-bits) c.pair_rest.ensures w.i-is w.to-is
+      (w.x-is ∙ to_z-of_z w16 (get_or c.args.bank.now w.in-Move.f (pos 0)) g)
+]
