@@ -43,12 +43,14 @@ places_right bank old t (some r ∷ τ) h =
 
 -- a field that is not absent is one of the registers
 field_in : (τ : Tags) (r : ℕ) → In r (map field_of τ) → (r ≡ 255 → ⊥) → (t : ℕ) × (get_or τ t none ≡ some r)
+field_in [] r i n = elim i [ ]
 field_in (none ∷ τ) r hd n = absurd (n refl)
 field_in (some k ∷ τ) r hd n = (0, refl)
 field_in (none ∷ τ) r (tl i) n = let c = field_in τ r i n in (suc c.0, c.1)
 field_in (some k ∷ τ) r (tl i) n = let c = field_in τ r i n in (suc c.0, c.1)
 
 same_in : (n a r : ℕ) → In r (replicate n a) → r ≡ a
+same_in zero a r i = elim i [ ]
 same_in (suc n) a r hd = refl
 same_in (suc n) a r (tl i) = same_in n a r i
 

@@ -244,7 +244,7 @@ fn put_records(
 fn put_built(out: &mut [u8], table: &[u8], built: Built, input: &[u8], from: usize) -> usize
     requires room_in_bounds { (room ≤ length out.old) × (length input.now ≤ 65536) }
     requires sound { Sound built table.now }
-    ensures* { λ r. ⌜ Wrote out.old out.new 0 r (built_lines (record { result = built; out = table.now }) (lines (drop from input.now))) ⌝ }
+    ensures { Wrote out.old out.new 0 result (built_lines (record { result = built; out = table.now }) (lines (drop from input.now))) }
 {
     let code = built.code;
     if code != 0 {
