@@ -1,5 +1,1 @@
 pub mod Readings
-pub mod Held
-pub mod Apart
-pub mod Onward
-pub mod Told

@@ -6,4 +6,4 @@ use Rattle.reading.proofs.Readings.{cut_found}
 use Rattle.reading.proofs.code_between.Goals as goal
 
 pub returns : goal.returns
-returns c =     c.field_code.ensures ∙ ap code_of (cut_found _ _ _ _ (record { sfits = c.position-from.type-inv }) (record { sfits = c.position-to.type-inv }) c.position-from.ensures c.position-to.ensures)
+returns c =     c.field_code.ensures ∙ ap code_of (cut_found _ _ _ _ (record { sfits = c.position-from.type_inv }) (record { sfits = c.position-to.type_inv }) c.position-from.ensures c.position-to.ensures)
