@@ -12,10 +12,8 @@ use mir.Syntax.{w16}
 use mir.ValLaws.{to_z-of_z}
 use Rattle.card.specs.Run.{Bank, reg}
 use borrow.Author.Rules.{rules}
+use Rattle.blocks.proofs.eight_at.Invariants.{Read}
 use Rattle.blocks.proofs.eight_at.Goals as goal
-
-abbrev Read : Bank → (f : ℕ) → List ℤ → ℕ → Type 0
-Read bank f v t = (t ≤ 8) × (length v ≡ 8) × ((j : ℕ) → j < t → get_or v j (pos 0) ≡ reg bank (f + j))
 
 one_more : (bank : Bank) (f : ℕ) (v : List ℤ) (t : ℕ) → t < 8 → Read bank f v t → Read bank f (set v t (reg bank (f + t))) (t + 1)
 one_more bank f v t h (m, n, e) = (omega arith, length-set v t (reg bank (f + t)) ∙ n, λ j l. by j l (ℕ_discrete j t))

@@ -13,6 +13,10 @@ use mir.ValLaws.{to_z-of_z}
 use Rattle.card.specs.Run.{Bank, reg}
 use borrow.Author.Rules.{rules}
 use Rattle.blocks.proofs.eight_at.Given as goal
+
+abbrev pub Read : Bank → (f : ℕ) → List ℤ → ℕ → Type 0
+Read bank f v t = (t ≤ 8) × (length v ≡ 8) × ((j : ℕ) → j < t → get_or v j (pos 0) ≡ reg bank (f + j))
+
 abbrev pub invariant-loop-t : goal.invariant-loop-t
 invariant-loop-t l = Read l.bank l.f l.v l.t
 

@@ -5,6 +5,7 @@ use native.Mathlib.Omega.{arith}
 use Rattle.ride.proofs.Lines.{limit_is, glides, glides_on, rest_so, end_so}
 use borrow.Author.Rules.{rules}
 use Rattle.ride.proofs.ride_line.Goals as goal
+use Rattle.ride.proofs.ride_line.Goals.{then-g-line, else-g-line}
 
 pub glide-g-requires : goal.glide-g-requires
 glide-g-requires c = glides c.requires.0 c.requires.1
@@ -13,11 +14,18 @@ pub ride_rest-row-requires : goal.ride_rest-row-requires
 ride_rest-row-requires c = (limit_is c.requires.0, glides_on c.requires.0 c.requires.1 c.glide-g.ensures)
 
 pub told-requires : goal.told-requires
-told-requires c = (c.requires.0, ⊎_elim (λ w. rw w.4 w.2.ensures.1) (λ w. rw w.2 (inr c.glide-g.ensures.standing)) c.if-g-line.branch)
+told-requires c = (
+  c.requires.0,
+  elim c.if-g-line.branch [
+      then-g-line w ↦ rw w.row-is w.ride_rest-row.ensures.1
+    | else-g-line w ↦ rw w.row-is (inr c.glide-g.ensures.standing)
+  ],
+)
 
 pub returns : goal.returns
-returns c =     c.told.ensures
-    ∙ ⊎_elim
-    (λ w. rw (w.3, w.4) (w.2.ensures.0 ∙ rest_so c.requires.0 c.args.line.now c.set_list.ensures c.glide-g.ensures))
-    (λ w. rw (w.1, w.2) (end_so c.requires.0 c.args.line.now c.set_list.ensures c.glide-g.ensures w.0.left))
-    c.if-g-line.branch
+returns c =
+    c.told.ensures
+    ∙ elim c.if-g-line.branch [
+        then-g-line w ↦ rw (w.bank-is, w.row-is) (w.ride_rest-row.ensures.0 ∙ rest_so c.requires.0 c.args.line.now c.set_list.ensures c.glide-g.ensures)
+      | else-g-line w ↦ rw (w.bank-is, w.row-is) (end_so c.requires.0 c.args.line.now c.set_list.ensures c.glide-g.ensures w.if-g-line.false)
+    ]

@@ -12,6 +12,7 @@ use Rattle.ground.proofs.Places.{place_fits}
 use borrow.Author.Rules.{rules}
 use Rattle.ride.proofs.Riding.{in_image, went_on, went_round, Going, going_none, going_ends, going_stay, going_astray, going_one, going_obeyed, going_missed}
 use Rattle.ride.proofs.ride_rest.Goals as goal
+use Rattle.ride.proofs.ride_rest.Goals.{then-next-row+else-limit-next, else-next-row}
 
 pub loop-i-init : goal.loop-i-init
 loop-i-init c = going_none c.requires.0 c.requires.1.standing c.requires.1.within
@@ -38,28 +39,38 @@ pub held-v-requires : goal.held-v-requires
 held-v-requires c = omega (arith, c.loop-i-test.true, c.requires.1.short)
 
 pub loop-i-preserved-then-e-lt-LISTED : goal.loop-i-preserved-then-e-lt-LISTED
-loop-i-preserved-then-e-lt-LISTED c =     let place = c.loop-i.i + 1 in
+loop-i-preserved-then-e-lt-LISTED c =
+    let place = c.loop-i.i + 1 in
     rw (c.held-v.ensures, to_z-of_z w16 (pos place) (place_fits place (omega (arith, c.loop-i-test.true, c.requires.1.short))))
     (going_one c.requires.0 c.loop-i.invariant c.word-e.result c.loop-i-test.true c.wide-b.ensures c.word-e.ensures
-    (⊎_elim (λ v. went_on c.loop-i.invariant.standing c.word-e.result v.1.left v.2) (λ v. went_round c.loop-i.invariant.standing c.word-e.result v.0.left v.1) c.if-next-row.branch)
+    (elim c.if-next-row.branch [
+        then-next-row+else-limit-next v ↦ went_on c.loop-i.invariant.standing c.word-e.result v.if-limit-next.false v.row-is
+      | else-next-row v ↦ went_round c.loop-i.invariant.standing c.word-e.result v.if-next-row.false v.row-is
+    ])
     c.if-e-lt-LISTED.true refl)
 
 pub obey-requires : goal.obey-requires
 obey-requires c = (c.if-e-lt-LISTED.false, omega (arith, c.loop-i-test.true, c.requires.1.short))
 
 pub returns-then-not-obey : goal.returns-then-not-obey
-returns-then-not-obey c = 
-    (
-  going_missed c.requires.0 c.loop-i.invariant c.word-e.result c.loop-i-test.true c.wide-b.ensures c.word-e.ensures
-      (⊎_elim (λ v. went_on c.loop-i.invariant.standing c.word-e.result v.1.left v.2) (λ v. went_round c.loop-i.invariant.standing c.word-e.result v.0.left v.1) c.if-next-row.branch)
-      c.obey.ensures (not-true _ c.if-not-obey.true-raw) 32768 refl,
+returns-then-not-obey c = (
+  going_missed c.requires.0 c.loop-i.invariant c.word-e.result c.loop-i-test.true c.wide-b.ensures c.word-e.ensures {there = c.if-next-row.row}
+    (elim c.if-next-row.branch [
+        then-next-row+else-limit-next v ↦ went_on c.loop-i.invariant.standing c.word-e.result v.if-limit-next.false v.row-is
+      | else-next-row v ↦ went_round c.loop-i.invariant.standing c.word-e.result v.if-next-row.false v.row-is
+    ])
+    c.obey.ensures c.if-not-obey.true 32768 refl,
   inl refl,
 )
 
 pub loop-i-preserved-else-not-obey : goal.loop-i-preserved-else-not-obey
-loop-i-preserved-else-not-obey c =     going_obeyed c.requires.0 c.loop-i.invariant c.word-e.result c.loop-i-test.true c.wide-b.ensures c.word-e.ensures
-    (⊎_elim (λ v. went_on c.loop-i.invariant.standing c.word-e.result v.1.left v.2) (λ v. went_round c.loop-i.invariant.standing c.word-e.result v.0.left v.1) c.if-next-row.branch)
-    c.obey.ensures (not-false _ c.if-not-obey.false-raw)
+loop-i-preserved-else-not-obey c =
+    going_obeyed c.requires.0 c.loop-i.invariant c.word-e.result c.loop-i-test.true c.wide-b.ensures c.word-e.ensures
+    (elim c.if-next-row.branch [
+        then-next-row+else-limit-next v ↦ went_on c.loop-i.invariant.standing c.word-e.result v.if-limit-next.false v.row-is
+      | else-next-row v ↦ went_round c.loop-i.invariant.standing c.word-e.result v.if-next-row.false v.row-is
+    ])
+    c.obey.ensures c.if-not-obey.false
 
 pub loop-i-preserved : goal.loop-i-preserved
 loop-i-preserved c = going_stay c.requires.0 c.loop-i.invariant c.word-e.result c.loop-i-test.true c.wide-b.ensures c.word-e.ensures c.if-e-row.false

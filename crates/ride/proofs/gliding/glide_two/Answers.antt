@@ -20,7 +20,7 @@ pub slice_bounds-column-count : goal.slice_bounds-column-count
 slice_bounds-column-count c = let h = in_image c.loop-i.invariant.0.standing c.wide-b.result (omega (arith, c.wide-b.ensures, c.type_inv.line c.loop-i.i)) in omega arith
 
 pub slice_bounds-column-start : goal.slice_bounds-column-start
-slice_bounds-column-start c = sub-column c
+slice_bounds-column-start c = slice_bounds-column-count c
 
 pub offset_bounds-column-row : goal.offset_bounds-column-row
 offset_bounds-column-row c = omega (arith, c.loop-i.invariant.0.standing.small)
@@ -38,7 +38,7 @@ pub slice_bounds-column2-count : goal.slice_bounds-column2-count
 slice_bounds-column2-count c = let h = in_image c.loop-i.invariant.1.standing c.wide-c.result (omega (arith, c.wide-c.ensures, c.type_inv.other c.loop-i.i)) in omega arith
 
 pub slice_bounds-column2-start : goal.slice_bounds-column2-start
-slice_bounds-column2-start c = sub-column2 c
+slice_bounds-column2-start c = slice_bounds-column2-count c
 
 pub offset_bounds-column2-row2 : goal.offset_bounds-column2-row2
 offset_bounds-column2-row2 c = omega (arith, c.loop-i.invariant.1.standing.small)
