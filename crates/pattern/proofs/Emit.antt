@@ -1,8 +1,8 @@
 -- Laws of what is written. Assumes nothing.
 use Prim.Native.Nat.{ℕ, zero, suc, ◌+◌, ◌≤◌, ◌<◌}
 use mathlib.Core.Path.{◌≡◌, refl, sym, ap, subst, ◌∙◌}
-use mathlib.Core.List.{List, [], ◌∷◌, ◌++◌, append-nil}
-use mathlib.Core.Bool.{Bool, true, false}
+use mathlib.Core.List.{List, [], ◌∷◌, append-nil}
+use mathlib.Core.Bool.{false}
 use native.Mathlib.Omega.{arith}
 use lib.ListN.{length, get_or}
 use Rattle.ground.specs.Lists.{Wrote}
@@ -11,8 +11,8 @@ use Rattle.ground.proofs.Stores.{wrote_none}
 use Rattle.net.specs.Rec.{Rec}
 use Rattle.net.specs.File.{rec_bytes}
 use Rattle.pattern.specs.Pat.{Pat, start_at, compile}
-use Rattle.pattern.specs.Reader.{Res, ok, form, deep, barred}
-use Rattle.pattern.specs.Writing.{bytes, coded, sized, Room}
+use Rattle.pattern.specs.Reader.{Res, ok, form, barred}
+use Rattle.pattern.specs.Writing.{bytes, coded, Room}
 use Rattle.pattern.proofs.Laws.{same_default, in_text}
 use Rattle.ground.proofs.Tests.{true_false}
 

@@ -1,8 +1,8 @@
 -- What is written of a set: its one record. Assumes nothing.
 use Prim.Native.Nat.{ℕ, zero, suc, ◌+◌, ◌*◌, ◌≤◌, ◌<◌}
-use mathlib.Core.Path.{◌≡◌, refl, sym, ap, subst, ◌∙◌}
-use mathlib.Core.Bool.{Bool, true, false}
-use mathlib.Core.List.{List, [], ◌∷◌, ◌++◌}
+use mathlib.Core.Path.{◌≡◌, refl, sym, ap, ◌∙◌}
+use mathlib.Core.Bool.{Bool}
+use mathlib.Core.List.{List, [], ◌∷◌}
 use native.Mathlib.Omega.{arith}
 use lib.ListN.{length, replicate, length-append, length-replicate, get_or-replicate}
 use lib.Dec.{eqb}
@@ -11,7 +11,6 @@ use Rattle.ground.proofs.Bits.{flag_test}
 use Rattle.ground.specs.Pick.{look}
 use Rattle.net.specs.Rec.{mask}
 use Rattle.net.specs.File.{rec_bytes}
-use Rattle.pattern.specs.Pat.{Pat}
 use Rattle.pattern.specs.Pat.Pat.{Set}
 use Rattle.pattern.specs.Sets as sets
 use Rattle.pattern.specs.Sets.{Item, listed, flipped, allows, octet, octets, mask_of}
@@ -20,7 +19,7 @@ use Rattle.pattern.specs.Standing.{Marks, Listed, boxed}
 use Rattle.pattern.specs.Writing.{shown}
 use Rattle.pattern.specs.Measured.{measured}
 use Rattle.pattern.specs.declared.reading.Sum.{Sum}
-use Rattle.pattern.specs.declared.reading.Read.TheVariants.{Ok, Form, Deep}
+use Rattle.pattern.specs.declared.reading.Read.TheVariants.{Ok, Form}
 use Rattle.pattern.proofs.Masks.{octets_long}
 use Rattle.pattern.proofs.Steps.{set_boxed}
 

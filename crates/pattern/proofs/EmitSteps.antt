@@ -1,11 +1,10 @@
 -- What the writing functions leave, step by step. Assumes nothing.
-use Prim.Native.Nat.{ℕ, zero, suc, ◌+◌, ◌-◌, ◌*◌, max, ◌≤◌, ◌<◌}
+use Prim.Native.Nat.{ℕ, ◌+◌, ◌≤◌, ◌<◌}
 use mathlib.Core.Path.{◌≡◌, refl, sym, ap, subst, ◌∙◌}
-use mathlib.Core.List.{List, [], ◌∷◌, ◌++◌, append_assoc, append-nil}
-use mathlib.Core.Bool.{Bool, true, false}
+use mathlib.Core.List.{List, [], ◌∷◌, ◌++◌}
+use mathlib.Core.Bool.{true, false}
 use native.Mathlib.Omega.{arith}
 use lib.ListN.{length, length-append}
-use lib.Dec.{eqb}
 use borrow.Author.Tests.{eq-eqb, ne_eqb}
 use Rattle.ground.specs.Lists.{Wrote}
 use Rattle.ground.specs.Pick.{look}
@@ -14,15 +13,15 @@ use Rattle.ground.proofs.Stores.{wrote_none, wrote_then}
 use Rattle.net.specs.Rec.{Rec, fork}
 use Rattle.net.specs.File.{rec_bytes}
 use Rattle.pattern.specs.Pat.{Pat, size, start_at, compile}
-use Rattle.pattern.specs.Pat.Pat.{Empty, Byte, Any, Set, Tag, Seq, Alt, Star, Plus, Opt}
-use Rattle.pattern.specs.Reader.{Res, ok, form, deep, Lvl, alts, seq, piece, atom, and_then, single, read, stops, repeated, plus?, opt?, closed, repeating}
+use Rattle.pattern.specs.Pat.Pat.{Empty, Seq, Alt, Star, Plus, Opt}
+use Rattle.pattern.specs.Reader.{Res, ok, form, deep, alts, seq, piece, atom, and_then, read, stops, repeated, plus?, opt?, closed}
 use Rattle.pattern.specs.Writing.{bytes, coded, sized, Room}
 use Rattle.pattern.specs.Measured.{measured}
 use Rattle.pattern.specs.declared.reading.Sum.{Sum}
 use Rattle.pattern.specs.declared.reading.Read.{Read}
-use Rattle.pattern.specs.declared.reading.Read.TheVariants.{Ok, Form, Deep}
-use Rattle.pattern.proofs.Laws.{alts_one, alts_more, seq_none, seq_some, piece_ok, atom_lone, atom_closed}
-use Rattle.pattern.proofs.Steps.{Refused, Inv, inv, once}
+use Rattle.pattern.specs.declared.reading.Read.TheVariants.{Ok}
+use Rattle.pattern.proofs.Laws.{alts_one, alts_more, seq_none, seq_some, piece_ok, atom_closed}
+use Rattle.pattern.proofs.Steps.{Refused, inv}
 use Rattle.pattern.proofs.Emit.{start_below}
 
 pub bytes_append : (a b : List Rec) → bytes (a ++ b) ≡ bytes a ++ bytes b

@@ -1,16 +1,15 @@
 -- Some patterns of document 01 and of its open points, computed. Assumes nothing.
 use Prim.Native.Nat.{ℕ}
 use mathlib.Core.Path.{◌≡◌, refl}
-use mathlib.Core.Bool.{Bool, true, false}
 use mathlib.Core.List.{List, [], ◌∷◌, ◌++◌}
-use lib.ListN.{length, replicate}
+use lib.ListN.{replicate}
 use Rattle.ground.specs.Pick.{pick}
-use Rattle.pattern.specs.Pat.{Pat, automaton}
-use Rattle.pattern.specs.Pat.Pat.{Empty, Byte, Any, Set, Tag, Seq, Alt, Star, Plus, Opt}
+use Rattle.pattern.specs.Pat.{automaton}
+use Rattle.pattern.specs.Pat.Pat.{Empty, Byte, Set, Tag, Seq, Alt, Star, Opt}
 use Rattle.pattern.specs.Sets.{span, class, fresh, listing, allows, octet, octets, mask_of, set_on, gained, scan}
 use Rattle.pattern.specs.Reader.{Res, ok, form, deep, alts, single, set_at, read_in, read}
 use Rattle.net.specs.Rec.{range, fork, tag, end}
-use Rattle.answers.specs.Answers.{OK, PATTERN_LONG, PATTERN_DEEP, PATTERN_BIG, OUT_SMALL}
+use Rattle.answers.specs.Answers.{PATTERN_LONG, PATTERN_DEEP, PATTERN_BIG, OUT_SMALL}
 use Rattle.pattern.specs.Maker.{file, maker}
 
 -- what each text is read as

@@ -1,22 +1,20 @@
 -- Laws of reading. Assumes nothing.
-use Prim.Native.Nat.{ℕ, zero, suc, ◌+◌, ◌-◌, ◌*◌, max, ◌≤◌, ◌<◌}
+use Prim.Native.Nat.{ℕ, zero, suc, ◌+◌, ◌-◌, ◌≤◌, ◌<◌}
 use mathlib.Core.Path.{◌≡◌, refl, sym, ap, subst, ◌∙◌}
-use mathlib.Core.List.{List, [], ◌∷◌, ◌++◌}
-use mathlib.Core.Bool.{Bool, true, false, ◌||◌}
-use mathlib.Core.Logic.{◌⊎◌, inl, inr, ⊎_elim}
+use mathlib.Core.List.{List, [], ◌∷◌}
+use mathlib.Core.Bool.{Bool, true, false}
 use native.Mathlib.Omega.{arith}
-use native.Mathlib.Nat.{not-suc-le-zero, le_of_suc-le-suc}
-use native.Mathlib.Decide.{dec_lt}
-use lib.ListN.{length, get_or, drop, length-drop, get_or-eq_default}
-use lib.Dec.{T, eqb, leb}
-use borrow.Author.Tests.{eqb-true, eqb-false, eq-eqb, ne_eqb, leb-true, leb-false, le-leb, lt-leb}
-use Rattle.ground.specs.Pick.{pick, look}
+use native.Mathlib.Nat.{not-suc-le-zero}
+use lib.ListN.{length, get_or, drop, length-drop}
+use lib.Dec.{eqb}
+use borrow.Author.Tests.{eqb-true, eqb-false, eq-eqb, ne_eqb, le-leb, lt-leb}
+use Rattle.ground.specs.Pick.{look}
 use Rattle.ground.proofs.Tests.{true_false}
 use Rattle.ground.proofs.Picks.{same_inside, in_list, test_in}
 use Rattle.pattern.specs.Pat.{Pat, size}
-use Rattle.pattern.specs.Pat.Pat.{Empty, Byte, Any, Set, Tag, Seq, Alt, Star, Plus, Opt}
-use Rattle.pattern.specs.Sets.{Item, Step, fresh, ready, held, quote, dash, dash-quote, name, shut, bad, set_on, gained, Scanned, listing, wrong, onward, scan, allows, mask_of}
-use Rattle.pattern.specs.Reader.{Res, ok, form, deep, Lvl, alts, seq, piece, atom, and_then, stops, repeating, barred, on_byte, set_read, set_from, set_at, on_set, on_dot, tagged, is_tag, on_mark, escaped, on_esc, single, alt_tail, seq_tail, opt?, plus?, repeated, closed, grouped, atom_or, step, read_in, rank, left, read}
+use Rattle.pattern.specs.Pat.Pat.{Empty, Byte, Any, Tag, Seq, Alt}
+use Rattle.pattern.specs.Sets.{Item, Step, fresh, ready, held, quote, dash, dash-quote, name, shut, bad, set_on, Scanned, listing, wrong, onward, scan}
+use Rattle.pattern.specs.Reader.{Res, ok, form, deep, Lvl, alts, seq, piece, atom, and_then, stops, barred, on_byte, set_read, set_from, set_at, on_set, on_dot, tagged, is_tag, on_mark, escaped, on_esc, single, alt_tail, seq_tail, opt?, plus?, repeated, closed, grouped, atom_or, step, read_in, left, read}
 
 -- the byte at a place, whatever stands for the end
 pub same_default : (s : List ℕ) (a b i : ℕ) → i < length s → get_or s i a ≡ get_or s i b

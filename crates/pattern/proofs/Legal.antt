@@ -1,10 +1,10 @@
 -- What the maker writes is a legal automaton: every next, first and second is below the count, every tag below the HEAD's tags. Assumes nothing.
-use Prim.Native.Nat.{ℕ, zero, suc, ◌+◌, max, ◌≤◌, ◌<◌}
-use mathlib.Core.Path.{◌≡◌, refl, sym, ap, subst, ◌∙◌}
+use Prim.Native.Nat.{ℕ, zero, suc, ◌+◌, ◌≤◌, ◌<◌}
+use mathlib.Core.Path.{◌≡◌, sym, subst}
 use mathlib.Core.List.{List, [], ◌∷◌, ◌++◌}
 use native.Mathlib.Omega.{arith}
 use lib.ListN.{length, get_or, length-append}
-use Rattle.net.specs.Rec.{Rec, range, mask, fork, tag, end}
+use Rattle.net.specs.Rec.{Rec, fork, end}
 use Rattle.net.specs.File.{Fits, Legal}
 use Rattle.ground.specs.Lists.{Every}
 use Rattle.pattern.specs.Pat.{Pat, size, start_at, compile, automaton}

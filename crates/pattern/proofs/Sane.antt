@@ -1,18 +1,18 @@
 -- What is read has bytes, MASKs of 32 bytes and tags below 8. Assumes nothing.
-use Prim.Native.Nat.{ℕ, zero, suc, ◌+◌, ◌-◌, ◌*◌, ◌≤◌, ◌<◌}
-use mathlib.Core.Path.{◌≡◌, refl, sym, ap, subst, ◌∙◌}
+use Prim.Native.Nat.{ℕ, zero, suc, ◌+◌, ◌<◌}
+use mathlib.Core.Path.{◌≡◌, refl, sym, subst}
 use mathlib.Core.Bool.{Bool, true, false, ◌&&◌}
-use mathlib.Core.List.{List, [], ◌∷◌, ◌++◌}
+use mathlib.Core.List.{List, []}
 use native.Mathlib.Omega.{arith}
 use lib.ListN.{length, get_or, drop}
 use lib.Dec.{eqb, leb}
 use borrow.Author.Tests.{eqb-false, leb-true}
 use Rattle.ground.specs.Pick.{look}
 use Rattle.ground.specs.Lists.{Bytes}
-use Rattle.pattern.specs.Pat.{Pat, size}
+use Rattle.pattern.specs.Pat.{Pat}
 use Rattle.pattern.specs.Pat.Pat.{Empty, Byte, Any, Set, Tag, Seq, Alt, Star, Plus, Opt}
-use Rattle.pattern.specs.Sets.{Scanned, listing, wrong, scan, fresh, allows, octet, octets, mask_of}
-use Rattle.pattern.specs.Reader.{Res, ok, form, deep, Lvl, alts, seq, piece, atom, and_then, stops, repeating, barred, on_byte, set_read, set_from, set_at, on_set, on_dot, tagged, is_tag, on_mark, escaped, on_esc, single, alt_tail, seq_tail, opt?, plus?, repeated, closed, grouped, atom_or, step, read_in, left, read}
+use Rattle.pattern.specs.Sets.{Scanned, listing, wrong, scan, fresh, allows, octets, mask_of}
+use Rattle.pattern.specs.Reader.{Res, ok, form, deep, Lvl, alts, seq, piece, atom, and_then, stops, barred, on_byte, set_read, set_from, set_at, on_set, on_dot, tagged, on_mark, escaped, on_esc, single, alt_tail, seq_tail, opt?, plus?, repeated, closed, grouped, atom_or, step, read_in, left, read}
 use Rattle.pattern.proofs.Masks.{octet_byte, octets_long}
 use Rattle.pattern.proofs.Laws.{same_default, in_text, false_in}
 

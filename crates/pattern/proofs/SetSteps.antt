@@ -1,5 +1,5 @@
 -- The steps of a set, as the code takes them. Assumes nothing.
-use Prim.Native.Nat.{ℕ, zero, suc, ◌+◌, ◌-◌, ◌≤◌, ◌<◌}
+use Prim.Native.Nat.{ℕ, suc, ◌+◌, ◌-◌, ◌≤◌, ◌<◌}
 use mathlib.Core.Path.{◌≡◌, refl, sym, ap, subst, ◌∙◌}
 use mathlib.Core.Bool.{Bool, true, false, ◌||◌}
 use mathlib.Core.List.{List, [], ◌∷◌, ◌++◌, append-nil}
@@ -17,7 +17,7 @@ use types.Run.{OneOf, miss}
 use denote.Enum.Declared.{tag_of}
 use Rattle.pattern.specs.Sets as sets
 use Rattle.pattern.specs.Sets.{Item, Step, Named, lists, listed, names, seek, set_on, after_name, gained, class_of, onward}
-use Rattle.pattern.specs.Standing.{told, stands, Sound, Stepped, items_of, raised, Marks, Listed, seen, boxed, boxed_from}
+use Rattle.pattern.specs.Standing.{told, stands, Sound, Stepped, items_of, raised, Marks, Listed, boxed, boxed_from}
 use Rattle.pattern.specs.declared.sets.Word.{Word}
 use Rattle.pattern.specs.declared.sets.Word.TheVariants.{Whole, Begun, Nothing}
 use Rattle.pattern.specs.declared.sets.Stand.{Stand}
@@ -43,6 +43,7 @@ from_below i from st h e = subst (Sound i) e h
 pub alone : (b : ℕ) (x : Item) → lists b x ≡ listed b (x ∷ [])
 alone b x = sym (or_false (lists b x))
 
+-- what is left where some variants are ruled out, by the tags
 pub not_whole : (r : Word) → ((k : ℕ) → r ≡ Whole k → ⊥) → OneOf (1 ∷ 2 ∷ []) (tag_of word.the_type r)
 not_whole (Whole k) h = absurd (h k refl)
 not_whole Begun h = inl refl
@@ -94,6 +95,7 @@ pub listed_more : (b : ℕ) (xs ys : List Item) → listed b (xs ++ ys) ≡ list
 listed_more b [] ys = refl
 listed_more b (x ∷ xs) ys = ap (λ t. lists b x || t) (listed_more b xs ys) ∙ sym (or_assoc (lists b x) (listed b xs) (listed b ys))
 
+-- the stands that gain nothing, by their tags
 pub no_gainer : (st : Stand) → ((a : ℕ) → st ≡ Held a → ⊥) → ((a : ℕ) → st ≡ Dash a → ⊥) → ((a : ℕ) → st ≡ DashQuote a → ⊥) → ((a : ℕ) → st ≡ Name a → ⊥) → OneOf (0 ∷ 1 ∷ 3 ∷ 7 ∷ 8 ∷ []) (tag_of the_type st)
 no_gainer Fresh h d q n = inl refl
 no_gainer Ready h d q n = inr (inl refl)
@@ -154,6 +156,7 @@ module _ (s : List ℕ) (i : ℕ) (st : Step) (xs : List Item) (h : i < length s
   scan_on : OneOf (0 ∷ 1 ∷ 2 ∷ 3 ∷ 4 ∷ 5 ∷ 6 ∷ []) (tag_of the_type r) → sets.scan (drop i s) i st xs ≡ sets.scan (drop (i + 1) s) (i + 1) (stands s (i + 1) r) (xs ++ gained st (get_or s i 0))
   scan_on o = here ∙ goes r (sets.scan (drop (i + 1) s)) (xs ++ gained st (get_or s i 0)) o
 
+-- the stands at which a set goes on, by their tags
 pub goes_on : (r : Stand) → (r ≡ Shut → ⊥) → (r ≡ Bad → ⊥) → OneOf (0 ∷ 1 ∷ 2 ∷ 3 ∷ 4 ∷ 5 ∷ 6 ∷ []) (tag_of the_type r)
 goes_on Fresh s b = inl refl
 goes_on Ready s b = inr (inl refl)

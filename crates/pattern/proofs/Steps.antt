@@ -1,28 +1,24 @@
 -- What the reading functions answer, step by step. Assumes nothing.
-use Prim.Native.Nat.{ℕ, zero, suc, ◌+◌, ◌-◌, ◌*◌, max, ◌≤◌, ◌<◌}
+use Prim.Native.Nat.{ℕ, ◌+◌, ◌*◌, ◌≤◌}
 use mathlib.Core.Path.{◌≡◌, refl, sym, ap, subst, ◌∙◌}
-use mathlib.Core.List.{List, [], ◌∷◌}
+use mathlib.Core.List.{List, []}
 use mathlib.Core.Bool.{Bool, true, false, ◌||◌}
-use mathlib.Core.Logic.{⊎_elim}
 use native.Mathlib.Omega.{arith}
-use types.Run.{OneOf}
-use denote.Enum.Declared.{tag_of}
-use lib.ListN.{length, drop}
+use lib.ListN.{length}
 use lib.Dec.{eqb}
 use borrow.Author.Tests.{eq-eqb, ne_eqb}
 use Rattle.ground.specs.Pick.{look}
 use Rattle.pattern.specs.Pat.{Pat, size}
 use Rattle.pattern.specs.Pat.Pat.{Empty, Byte, Any, Set, Tag, Seq, Alt, Star, Plus, Opt}
 use Rattle.pattern.specs.Sets as sets
-use Rattle.pattern.specs.Reader.{Res, ok, form, deep, Lvl, alts, seq, piece, atom, and_then, stops, repeating, single, set_read, set_from, set_at, alt_tail, seq_tail, opt?, plus?, repeated, closed, grouped, atom_or, step, left, read}
+use Rattle.pattern.specs.Reader.{Res, ok, form, deep, Lvl, alts, seq, piece, atom, and_then, stops, repeating, single, set_read, set_from, set_at, opt?, plus?, repeated, closed, read}
 use Rattle.pattern.specs.Standing.{seen, boxed, boxed_from}
-use Rattle.pattern.specs.Measured.{measured, sum_of, seq_sum, alt_sum, rep_sum, width, tags}
+use Rattle.pattern.specs.Measured.{measured, sum_of, seq_sum, alt_sum, rep_sum, width}
 use Rattle.pattern.specs.declared.sets.Scanned.TheVariants.{At, Wrong}
 use Rattle.pattern.specs.declared.reading.Sum.{Sum}
 use Rattle.pattern.specs.declared.reading.Read.{Read}
 use Rattle.pattern.specs.declared.reading.Read.TheVariants.{Ok, Form, Deep}
-use Rattle.pattern.specs.contracts.reading.Read.{the_type}
-use Rattle.pattern.proofs.Laws.{Good, Went, adv, went, read_good, read_step, in_text, byte_in, alts_step, alts_one, alts_more, seq_none, seq_some, piece_step, piece_ok, atom_lone, atom_deep, atom_group, atom_closed}
+use Rattle.pattern.proofs.Laws.{adv, went, read_good, alts_step, alts_one, alts_more, seq_none, seq_some, piece_step, piece_ok, atom_lone, atom_deep, atom_group, atom_closed}
 use Rattle.pattern.proofs.Sums.{alike}
 use Rattle.ground.proofs.Tests.{true_false}
 
@@ -30,11 +26,6 @@ abbrev pub Refused : Read → Type 0
 Refused (Ok e m) = ⊥
 Refused (Form q) = Unit {0}
 Refused (Deep q) = Unit {0}
-
-pub refused : (r : Read) → OneOf (1 ∷ 2 ∷ []) (tag_of the_type r) → Refused r
-refused (Ok e m) h = ⊎_elim (λ x. omega arith) (λ x. omega arith) h
-refused (Form q) h = tt
-refused (Deep q) h = tt
 
 pub not_ok : (r : Read) → ((e : ℕ) (m : Sum) → r ≡ Ok e m → ⊥) → Refused r
 not_ok (Ok e m) h = h e m refl

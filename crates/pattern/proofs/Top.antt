@@ -1,30 +1,27 @@
 -- The pattern maker's answer, case by case. Assumes nothing.
-use Prim.Native.Nat.{ℕ, zero, suc, ◌+◌, ◌-◌, ◌*◌, ◌≤◌, ◌<◌}
+use Prim.Native.Nat.{ℕ, ◌+◌, ◌≤◌, ◌<◌}
 use mathlib.Core.Path.{◌≡◌, refl, sym, ap, subst, ◌∙◌}
 use mathlib.Core.List.{List, [], ◌∷◌, ◌++◌}
-use mathlib.Core.Bool.{Bool, true, false}
 use native.Mathlib.Omega.{arith}
 use lib.ListN.{length, length-append}
-use lib.Seq.{sets}
-use lib.Dec.{ltb, leb}
+use lib.Dec.{ltb}
 use Rattle.ground.specs.Pick.{pick}
 use Rattle.ground.specs.Lists.{Wrote}
 use Rattle.ground.proofs.Picks.{pick_lt, pick_not_lt, pick_le, pick_not_le}
 use Rattle.answers.specs.Answers.{OK, PATTERN_LONG, PATTERN_FORM, PATTERN_DEEP, PATTERN_BIG, OUT_SMALL}
 use Rattle.net.specs.Rec.{Rec, mask, fork, end}
-use Rattle.net.specs.File.{rec_bytes, file_of}
+use Rattle.net.specs.File.{rec_bytes}
 use Rattle.pattern.specs.Pat.{Pat, size, start_at, compile, automaton}
 use Rattle.pattern.specs.Pat.Pat.{Empty, Byte, Any, Set, Tag, Seq, Alt, Star, Plus, Opt}
 use Rattle.pattern.specs.Reader.{Res, ok, form, deep, alts, read}
-use Rattle.pattern.specs.Measured.{measured, sum_of, width, tags}
-use Rattle.pattern.specs.Writing.{bytes, coded, sized, Room, head_of, filed}
-use Rattle.pattern.specs.Maker.{file, Given, given, refuse, written, made, judged, maker}
+use Rattle.pattern.specs.Measured.{measured, width, tags}
+use Rattle.pattern.specs.Writing.{bytes, coded, Room, head_of, filed}
+use Rattle.pattern.specs.Maker.{file, given, refuse, written, made, judged, maker}
 use Rattle.pattern.specs.declared.reading.Sum.{Sum}
-use Rattle.pattern.specs.declared.reading.Read.{Read}
 use Rattle.pattern.specs.declared.reading.Read.TheVariants.{Ok, Form, Deep}
 use Rattle.pattern.specs.declared.Made.{Made}
-use Rattle.pattern.proofs.Steps.{Refused, Inv, inv}
-use Rattle.pattern.proofs.EmitSteps.{bytes_append, Is, is_inv, coded_is, sized_is, sized_of}
+use Rattle.pattern.proofs.Steps.{Refused, inv}
+use Rattle.pattern.proofs.EmitSteps.{bytes_append, is_inv, coded_is, sized_is, sized_of}
 use Rattle.pattern.proofs.Sane.{Sane}
 
 -- how many records and bytes a pattern is, wherever it stands

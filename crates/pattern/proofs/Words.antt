@@ -1,12 +1,11 @@
 -- The names of the classes, compared. Assumes nothing.
-use Prim.Native.Nat.{ℕ, zero, suc, ◌+◌, ◌-◌, ◌*◌, ◌/◌, ◌%◌, ◌≤◌, ◌<◌}
-use mathlib.Core.Path.{◌≡◌, refl, sym, ap, subst, ◌∙◌}
+use Prim.Native.Nat.{ℕ, suc, ◌+◌, ◌*◌, ◌/◌, ◌%◌, ◌≤◌, ◌<◌}
+use mathlib.Core.Path.{◌≡◌, refl, sym, ap, ◌∙◌}
 use mathlib.Core.Bool.{Bool, true, false}
-use mathlib.Core.List.{List, [], ◌∷◌, ◌++◌}
+use mathlib.Core.List.{List, [], ◌∷◌}
 use mathlib.Core.Logic.{inl, inr}
 use native.Mathlib.Omega.{arith}
 use native.Mathlib.Numerals.{add-one}
-use native.Mathlib.Nat.{not-suc-le-zero}
 use lib.ListN.{length, get_or, drop, drop_of_length-le}
 use lib.Seq.{drop-cons}
 use lib.Dec.{T, eqb, leb, eqb→eq}
@@ -15,7 +14,7 @@ use types.Run.{OneOf, miss}
 use denote.Enum.Declared.{tag_of}
 use Rattle.ground.specs.Pick.{pick}
 use Rattle.ground.proofs.Picks.{picked, passed}
-use Rattle.ground.proofs.Tested.{below, tested_below}
+use Rattle.ground.proofs.Tested.{tested_below}
 use Rattle.pattern.specs.Sets.{Named, names, word_of, against, or_else, seek, whole, begun, none}
 use Rattle.pattern.specs.Standing.{word, told}
 use Rattle.pattern.specs.declared.sets.Word.{Word}
@@ -71,6 +70,7 @@ module _ (w v : List ℕ) (k t : ℕ) where
   pub against_begun : length w ≤ t → t < length v → against (drop t w) (drop t v) k ≡ begun
   against_begun h l = ap (λ x. against x (drop t v) k) (drop_of_length-le w h) ∙ ap (λ x. against [] x k) (drop-cons v t 0 l)
 
+-- which words are left where it is not `Nothing`, by their tags
 pub not_nothing : (r : Word) → (r ≡ Nothing → ⊥) → OneOf (0 ∷ 1 ∷ []) (tag_of the_type r)
 not_nothing (Whole j) h = inl refl
 not_nothing Begun h = inr refl

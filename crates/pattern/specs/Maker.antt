@@ -1,5 +1,5 @@
 -- The promise of the pattern maker: what it answers of a text, and what it leaves in the output. Assumes nothing: these are definitions.
-use Rattle.std.specs.Prelude.{ℕ, ◌+◌, List, [], ◌∷◌, ◌++◌, length, ltb, leb}
+use Rattle.std.specs.Prelude.{ℕ, List, length, ltb, leb}
 use Rattle.std.proofs.lemmas.List.Edits.{sets}
 use Rattle.ground.specs.Pick.{pick}
 use Rattle.answers.specs.Answers.{OK, PATTERN_LONG, PATTERN_FORM, PATTERN_DEEP, PATTERN_BIG, OUT_SMALL}

@@ -1,5 +1,6 @@
 // Pattern text to automaton.
 #![tactic(auto)]
+
 ghost use Rattle.std.specs.Prelude.{◌≡◌};
 ghost use Rattle.pattern.specs.Maker.{given, maker};
 

@@ -1,13 +1,10 @@
 -- `pattern` keeps its promise, check by check. Assumes nothing.
-use Prim.Native.Nat.{ℕ, ◌+◌, ◌<◌}
-use mathlib.Core.Path.{◌≡◌, refl, sym, ap, subst, ◌∙◌}
+use mathlib.Core.Path.{sym, ◌∙◌}
 use native.Mathlib.Omega.{arith}
-use lib.ListN.{get_or}
 use Rattle.pattern.specs.Reader.{alts, read}
 use Rattle.pattern.proofs.Steps.{far, inv}
-use Rattle.pattern.proofs.Sane.{Sane, read_sane}
+use Rattle.pattern.proofs.Sane.{read_sane}
 use Rattle.pattern.proofs.Top.{pat, at_long, at_form, at_deep, at_open, at_big, at_small, room, room_end, at_ok}
-use borrow.Author.Rules.{rules}
 use Rattle.pattern.proofs.pattern.Goals as goal
 
 pub returns-then-text-gt255 : goal.returns-then-text-gt255

@@ -1,15 +1,13 @@
 -- The four measuring functions meet their contracts, in one induction on the bytes left, paired with the grammar level. Assumes nothing.
-use Prim.Native.Nat.{ℕ, ◌<◌}
-use Prim.Native.Nat.{◌+◌, ◌-◌}
-use borrow.Author.Rules.{rules}
+use Prim.Native.Nat.{ℕ}
+use Prim.Native.Nat.{◌+◌}
 use native.Mathlib.Omega.{arith}
 use mathlib.Core.Path.{◌≡◌, sym, ◌∙◌, subst}
 use mathlib.Core.Bool.{true, false}
-use lib.ListN.{length}
-use Rattle.pattern.specs.Reader.{left, stops, repeating, alts, seq, piece, atom}
+use Rattle.pattern.specs.Reader.{stops, repeating, seq, piece, atom}
 use Rattle.pattern.specs.Measured.{rep_sum}
 use Rattle.pattern.proofs.Laws.{byte_of}
-use Rattle.pattern.proofs.Steps.{not_ok, far, Passed, pass_none, pass_refused, pass_done, pass_on, none_after, forked_sum, alts_refused, alts_alone, alts_before, seq_empty, seq_refused, seq_before, piece_refused, piece_again, piece_once, atom_lonely, atom_too_deep, atom_refused, atom_unclosed, atom_done}
+use Rattle.pattern.proofs.Steps.{not_ok, far, pass_none, pass_refused, pass_done, pass_on, none_after, forked_sum, alts_refused, alts_alone, alts_before, seq_empty, seq_refused, seq_before, piece_refused, piece_again, piece_once, atom_lonely, atom_too_deep, atom_refused, atom_unclosed, atom_done}
 use Rattle.pattern.proofs.reading.+alternatives_atomic_repeated_sequence.Goals as goal
 
 pub alternatives-loop-end-init : goal.alternatives-loop-end-init

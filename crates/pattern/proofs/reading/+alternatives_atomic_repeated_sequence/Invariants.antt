@@ -1,16 +1,10 @@
 -- The four measuring functions meet their contracts, in one induction on the bytes left, paired with the grammar level. Assumes nothing.
-use Prim.Native.Nat.{ℕ, ◌<◌}
-use Prim.Native.Nat.{◌+◌, ◌-◌}
-use borrow.Author.Rules.{rules}
-use native.Mathlib.Omega.{arith}
-use mathlib.Core.Path.{◌≡◌, sym, ◌∙◌, subst}
-use mathlib.Core.Bool.{true, false}
+use Prim.Native.Nat.{◌-◌}
 use lib.ListN.{length}
-use Rattle.pattern.specs.Reader.{left, stops, repeating, alts, seq, piece, atom}
-use Rattle.pattern.specs.Measured.{rep_sum}
-use Rattle.pattern.proofs.Laws.{byte_of}
-use Rattle.pattern.proofs.Steps.{refused, far, Passed, pass_none, pass_refused, pass_done, pass_on, none_after, forked_sum, alts_refused, alts_alone, alts_before, seq_empty, seq_refused, seq_before, piece_refused, piece_again, piece_once, atom_lonely, atom_too_deep, atom_refused, atom_unclosed, atom_done}
+use Rattle.pattern.specs.Reader.{left, alts, seq, piece, atom}
+use Rattle.pattern.proofs.Steps.{Passed}
 use Rattle.pattern.proofs.reading.+alternatives_atomic_repeated_sequence.Given as goal
+
 abbrev pub invariant-alternatives-loop-end : goal.invariant-alternatives-loop-end
 invariant-alternatives-loop-end l = Passed l.s alts l.depth l.at l.sum l.i
 

@@ -1,6 +1,5 @@
 -- `alt_sum` meets its contract. Assumes nothing.
 use Rattle.pattern.proofs.Sums.{topped}
-use borrow.Author.Rules.{rules}
 use Rattle.pattern.proofs.reading.alt_sum.Goals as goal
 
 pub returns : goal.returns

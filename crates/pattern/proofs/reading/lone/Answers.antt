@@ -1,5 +1,5 @@
 -- `lone` meets its contract, atom by atom. Assumes nothing.
-use mathlib.Core.Path.{◌≡◌, refl, sym, ap, ◌∙◌, subst}
+use mathlib.Core.Path.{◌≡◌, sym, ap, ◌∙◌, subst}
 use mathlib.Core.Bool.{true, false}
 use Prim.Native.Nat.{ℕ, ◌+◌, ◌-◌, ◌≤◌, ◌<◌}
 use native.Mathlib.Omega.{arith}
@@ -9,7 +9,6 @@ use Rattle.pattern.specs.Reader.{barred, single}
 use Rattle.pattern.specs.Measured.{measured, sum_of}
 use Rattle.pattern.proofs.Laws.{byte_of, single_cut, single_escaped, single_tag, single_low, single_high, single_dot, single_set, single_barred, single_plain}
 use Rattle.pattern.proofs.Steps.{told}
-use borrow.Author.Rules.{rules}
 use Rattle.pattern.proofs.reading.lone.Goals.{then-t-ge48+else-t-le55, else-t-ge48}
 use Rattle.pattern.proofs.reading.lone.Goals as goal
 

@@ -1,6 +1,5 @@
 -- `seq_sum` meets its contract. Assumes nothing.
 use Rattle.pattern.proofs.Sums.{topped}
-use borrow.Author.Rules.{rules}
 use Rattle.pattern.proofs.reading.seq_sum.Goals as goal
 
 pub returns : goal.returns

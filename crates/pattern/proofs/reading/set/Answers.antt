@@ -1,7 +1,6 @@
 -- `set` meets its contract. Assumes nothing.
 use mathlib.Core.Path.{sym, ◌∙◌}
 use Rattle.pattern.proofs.Steps.{set_read_lem, set_wrong}
-use borrow.Author.Rules.{rules}
 use Rattle.pattern.proofs.reading.set.Goals as goal
 
 pub returns-in-At : goal.returns-in-At

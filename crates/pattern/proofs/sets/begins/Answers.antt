@@ -1,5 +1,5 @@
 -- `begins` meets its contract: the byte is none of `[ ] \ - ^`, or the item is refused, or `\` or a name begins. Assumes nothing.
-use mathlib.Core.Path.{sym, ap, ◌∙◌, refl}
+use mathlib.Core.Path.{sym, ap, ◌∙◌}
 use Prim.Native.Nat.{◌+◌}
 use lib.ListN.{drop}
 use native.Mathlib.Omega.{arith}
@@ -9,7 +9,6 @@ use Rattle.pattern.specs.Sets as sets
 use Rattle.pattern.specs.Sets.{item}
 use Rattle.pattern.specs.Standing.{stands, Sound}
 use Rattle.ground.proofs.Lists.{take_none}
-use borrow.Author.Rules.{rules}
 use Rattle.pattern.proofs.sets.begins.Goals as goal
 
 pub returns-then-c-eq92 : goal.returns-then-c-eq92

@@ -1,6 +1,5 @@
 -- `class_at` meets its contract. Assumes nothing.
 use Rattle.pattern.proofs.SetSteps.{not_whole, name_gains, name_gains_none}
-use borrow.Author.Rules.{rules}
 use Rattle.pattern.proofs.sets.class_at.Goals as goal
 
 pub returns-in-Whole : goal.returns-in-Whole

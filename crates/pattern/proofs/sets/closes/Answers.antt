@@ -5,7 +5,6 @@ use Rattle.ground.specs.Pick.{pick}
 use Rattle.pattern.specs.Sets.{ends}
 use Rattle.pattern.specs.Standing.{stands, Sound}
 use Rattle.ground.proofs.Picks.{passed}
-use borrow.Author.Rules.{rules}
 use Rattle.pattern.proofs.sets.closes.Goals as goal
 
 pub returns-then-c-eq93 : goal.returns-then-c-eq93

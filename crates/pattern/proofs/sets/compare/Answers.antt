@@ -1,10 +1,7 @@
 -- `compare` meets its contract: the loop has compared the first t bytes. Assumes nothing.
 use borrow.Author.Rules.{rules}
-use Prim.Native.Nat.{ℕ, ◌≤◌, ◌-◌}
-use mathlib.Core.Path.{◌≡◌, refl, sym, ap, ◌∙◌}
+use mathlib.Core.Path.{refl, sym, ◌∙◌}
 use native.Mathlib.Omega.{arith}
-use lib.ListN.{length, drop}
-use Rattle.pattern.specs.Sets.{against}
 use Rattle.pattern.specs.Standing.{word, told}
 use Rattle.pattern.proofs.Words.{short, against_over, against_differs, against_same, against_whole, against_begun}
 use Rattle.pattern.proofs.sets.compare.Goals as goal

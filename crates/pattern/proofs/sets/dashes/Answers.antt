@@ -5,7 +5,6 @@ use Rattle.ground.specs.Pick.{pick}
 use Rattle.pattern.specs.Sets as sets
 use Rattle.pattern.specs.Sets.{set_on}
 use Rattle.pattern.specs.Standing.{stands, Sound}
-use borrow.Author.Rules.{rules}
 use Rattle.pattern.proofs.sets.dashes.Goals as goal
 
 pub returns-then-c-eq92 : goal.returns-then-c-eq92

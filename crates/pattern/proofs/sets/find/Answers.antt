@@ -1,10 +1,7 @@
 -- `find` meets its contract: no word before the k-th fits. Assumes nothing.
 use borrow.Author.Rules.{rules}
-use Prim.Native.Nat.{ℕ, ◌≤◌, ◌-◌}
-use mathlib.Core.Path.{◌≡◌, refl, sym, ap, ◌∙◌}
+use mathlib.Core.Path.{refl, sym, ◌∙◌}
 use native.Mathlib.Omega.{arith}
-use lib.ListN.{length, drop}
-use Rattle.pattern.specs.Sets.{seek, names}
 use Rattle.pattern.proofs.Words.{not_nothing, seek_hit, seek_miss, seek_end}
 use Rattle.pattern.proofs.sets.find.Goals as goal
 

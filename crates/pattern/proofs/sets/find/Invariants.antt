@@ -1,12 +1,10 @@
 -- `find` meets its contract: no word before the k-th fits. Assumes nothing.
-use borrow.Author.Rules.{rules}
-use Prim.Native.Nat.{ℕ, ◌≤◌, ◌-◌}
-use mathlib.Core.Path.{◌≡◌, refl, sym, ap, ◌∙◌}
-use native.Mathlib.Omega.{arith}
-use lib.ListN.{length, drop}
+use Prim.Native.Nat.{◌≤◌, ◌-◌}
+use mathlib.Core.Path.{◌≡◌}
+use lib.ListN.{drop}
 use Rattle.pattern.specs.Sets.{seek, names}
-use Rattle.pattern.proofs.Words.{seek_hit, seek_miss, seek_end}
 use Rattle.pattern.proofs.sets.find.Given as goal
+
 abbrev pub invariant-loop-k : goal.invariant-loop-k
 invariant-loop-k l = (l.k ≤ 12) × (seek l.w names 0 ≡ seek l.w (drop l.k names) l.k)
 

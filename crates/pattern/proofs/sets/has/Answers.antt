@@ -3,7 +3,6 @@ use mathlib.Core.Path.{sym, ap, ◌∙◌}
 use Rattle.pattern.specs.Sets.{listed, span, class}
 use Rattle.pattern.specs.Standing.{items_of}
 use Rattle.pattern.proofs.SetSteps.{alone}
-use borrow.Author.Rules.{rules}
 use Rattle.pattern.proofs.sets.has.Goals as goal
 
 pub returns-in-Nothing : goal.returns-in-Nothing

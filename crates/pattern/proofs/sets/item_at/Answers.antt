@@ -8,7 +8,6 @@ use Rattle.pattern.specs.declared.sets.Stand.TheVariants.{Held, Dash, DashQuote,
 use Rattle.pattern.specs.declared.sets.Gain.TheVariants.{Nothing, Span}
 use Rattle.ground.proofs.Picks.{picked, passed}
 use Rattle.pattern.proofs.SetSteps.{gets, from_below, no_gainer, gains_none}
-use borrow.Author.Rules.{rules}
 use Rattle.pattern.proofs.sets.item_at.Goals as goal
 
 pub returns-then-c-eq45 : goal.returns-then-c-eq45

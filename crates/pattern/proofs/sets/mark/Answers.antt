@@ -1,12 +1,10 @@
 -- `mark` meets its contract: byte by byte the answer is the answer from here, and the items gained so far are marked. Assumes nothing.
-use Prim.Native.Nat.{◌-◌}
-use mathlib.Core.Path.{◌≡◌, subst, ◌∙◌}
+use mathlib.Core.Path.{subst, ◌∙◌}
 use mathlib.Core.List.{◌++◌}
 use borrow.Author.Rules.{rules}
 use native.Mathlib.Omega.{arith}
-use lib.ListN.{length}
 use Rattle.pattern.specs.Standing.{Marks}
-use Rattle.pattern.proofs.SetSteps.{Come, goes_on, come_none, come_end, come_bad, come_shut, come_on, listed_wrong, listed_at}
+use Rattle.pattern.proofs.SetSteps.{goes_on, come_none, come_end, come_bad, come_shut, come_on, listed_wrong, listed_at}
 use Rattle.pattern.proofs.sets.mark.Goals as goal
 
 pub loop-at-init : goal.loop-at-init

@@ -1,13 +1,11 @@
 -- `mark` meets its contract: byte by byte the answer is the answer from here, and the items gained so far are marked. Assumes nothing.
 use Prim.Native.Nat.{◌-◌}
-use mathlib.Core.Path.{◌≡◌, subst, ◌∙◌}
-use mathlib.Core.List.{◌++◌}
-use borrow.Author.Rules.{rules}
-use native.Mathlib.Omega.{arith}
+use mathlib.Core.Path.{◌≡◌}
 use lib.ListN.{length}
 use Rattle.pattern.specs.Standing.{Marks}
-use Rattle.pattern.proofs.SetSteps.{Come, come_none, come_end, come_bad, come_shut, come_on, listed_wrong, listed_at}
+use Rattle.pattern.proofs.SetSteps.{Come}
 use Rattle.pattern.proofs.sets.mark.Given as goal
+
 abbrev pub invariant-loop-at : goal.invariant-loop-at
 invariant-loop-at l = (length l.marks ≡ 256) × Come (Marks l.initial.marks) (Marks l.marks) l.s l.initial.at l.initial.cur l.at l.cur
 

@@ -1,10 +1,8 @@
 -- `mark_item` meets its contract: the bytes below b are marked. Assumes nothing.
-use borrow.Author.Rules.{rules}
-use Prim.Native.Nat.{ℕ, ◌+◌, ◌-◌, ◌≤◌}
-use mathlib.Core.Path.{◌≡◌, refl, sym, ap, ◌∙◌, subst}
+use mathlib.Core.Path.{◌≡◌, sym, ap, ◌∙◌, subst}
 use native.Mathlib.Omega.{arith}
 use mathlib.Core.List.{◌++◌}
-use lib.ListN.{length, get_or, length-set}
+use lib.ListN.{get_or, length-set}
 use Rattle.pattern.specs.Standing.{items_of, raised, Marks}
 use Rattle.pattern.proofs.SetSteps.{Half, half_none, half_more, half_all, marks_same}
 use Rattle.pattern.proofs.sets.mark_item.Goals as goal

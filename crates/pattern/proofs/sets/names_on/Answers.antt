@@ -1,6 +1,5 @@
 -- `names_on` meets its contract. Assumes nothing.
 use Rattle.pattern.proofs.SetSteps.{name_whole, name_begun, name_nothing}
-use borrow.Author.Rules.{rules}
 use Rattle.pattern.proofs.sets.names_on.Goals as goal
 
 pub returns-in-Whole : goal.returns-in-Whole

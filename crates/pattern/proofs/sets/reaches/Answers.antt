@@ -1,5 +1,5 @@
 -- `reaches` meets its contract. Assumes nothing.
-use mathlib.Core.Path.{sym, ap, ◌∙◌}
+use mathlib.Core.Path.{sym}
 use borrow.Author.Tests.{lt-ltb, le-ltb}
 use Rattle.pattern.specs.Standing.{stands, Sound}
 use Rattle.ground.proofs.Picks.{picked, passed}

@@ -1,11 +1,9 @@
 -- `scan` meets its contract: byte by byte the answer is the answer from here. Assumes nothing.
-use Prim.Native.Nat.{◌-◌}
 use mathlib.Core.Path.{sym, ap}
 use borrow.Author.Rules.{rules}
 use native.Mathlib.Omega.{arith}
-use lib.ListN.{length}
 use Rattle.pattern.specs.Standing.{seen}
-use Rattle.pattern.proofs.SetSteps.{Come, goes_on, come_none, come_end, come_bad, come_shut, come_on}
+use Rattle.pattern.proofs.SetSteps.{goes_on, come_none, come_end, come_bad, come_shut, come_on}
 use Rattle.pattern.proofs.sets.scan.Goals as goal
 
 pub loop-at-init : goal.loop-at-init

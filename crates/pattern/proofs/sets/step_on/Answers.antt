@@ -1,5 +1,5 @@
 -- `step_on` meets its contract, stand by stand. Assumes nothing.
-use mathlib.Core.Path.{◌≡◌, refl, sym, ap, ◌∙◌}
+use mathlib.Core.Path.{refl}
 use lib.ListN.{get_or}
 use borrow.Author.Tests.{eq-eqb, ne_eqb}
 use Rattle.pattern.specs.Sets as sets
@@ -8,7 +8,6 @@ use Rattle.pattern.specs.Standing.{stands, Sound}
 use Rattle.pattern.specs.declared.sets.Stand.TheVariants.{Fresh, Ready, Held, Quote, Dash, DashQuote, Name, Shut, Bad}
 use Rattle.ground.proofs.Picks.{picked, passed}
 use Rattle.pattern.proofs.SetSteps.{led, from_below}
-use borrow.Author.Rules.{rules}
 use Rattle.pattern.proofs.sets.step_on.Goals as goal
 
 pub returns-then-c-eq45 : goal.returns-then-c-eq45

@@ -5,7 +5,6 @@ use native.Mathlib.Omega.{arith}
 use Rattle.ground.proofs.Tested.{table_at}
 use Rattle.pattern.specs.Standing.{word}
 use Rattle.pattern.proofs.Words.{letters, letters_at}
-use borrow.Author.Rules.{rules}
 use Rattle.pattern.proofs.sets.word_byte.Goals as goal
 
 pub returns : goal.returns

@@ -1,7 +1,6 @@
 -- `bars` meets its contract. Assumes nothing.
 use mathlib.Core.Path.{refl, sym, ◌∙◌}
 use Rattle.ground.proofs.Tests.{past}
-use borrow.Author.Rules.{rules}
 use Rattle.pattern.proofs.text.bars.Goals as goal
 
 pub returns-then-stops_at : goal.returns-then-stops_at

@@ -3,7 +3,6 @@ use native.Mathlib.Omega.{arith}
 use mathlib.Core.Path.{sym}
 use lib.ListN.{get_or-eq_default}
 use Rattle.pattern.proofs.Laws.{same_default}
-use borrow.Author.Rules.{rules}
 use Rattle.pattern.proofs.text.look.Goals as goal
 
 pub overflow_cast-result : goal.overflow_cast-result

@@ -1,7 +1,6 @@
 -- The four writing functions meet their contracts, in one induction on the bytes left, paired with the grammar level. Assumes nothing.
-use Prim.Native.Nat.{ℕ, ◌<◌}
-use Prim.Native.Nat.{◌+◌, ◌-◌}
-use borrow.Author.Rules.{rules}
+use Prim.Native.Nat.{ℕ}
+use Prim.Native.Nat.{◌+◌}
 use native.Mathlib.Omega.{arith}
 use mathlib.Core.Path.{◌≡◌, refl, sym, ap, ◌∙◌, subst}
 use mathlib.Core.Bool.{true, false}
@@ -9,11 +8,11 @@ use lib.ListN.{length}
 use Rattle.ground.specs.Pick.{look}
 use Rattle.ground.proofs.Stores.{wrote_length}
 use Rattle.pattern.specs.Pat.{start_at}
-use Rattle.pattern.specs.Reader.{read, left, stops, alts, seq, piece, atom}
+use Rattle.pattern.specs.Reader.{read, stops, alts, seq, piece, atom}
 use Rattle.pattern.specs.Writing.{coded}
 use Rattle.pattern.proofs.Laws.{byte_of, atom_lone}
 use Rattle.pattern.proofs.Steps.{not_ok, inv, far, alts_refused, seq_refused, piece_refused, atom_too_deep, atom_refused, atom_unclosed}
-use Rattle.pattern.proofs.EmitLoops.{Sent, sent_none, sent_whole, sent_below, seq_ends, seq_next, seq_room, seq_sent, alts_last, alts_end, alts_next, alts_fork, alts_room, alts_sent}
+use Rattle.pattern.proofs.EmitLoops.{sent_none, sent_whole, sent_below, seq_ends, seq_next, seq_room, seq_sent, alts_last, alts_end, alts_next, alts_fork, alts_room, alts_sent}
 use Rattle.pattern.proofs.Emit.{start_below}
 use Rattle.pattern.proofs.EmitSteps.{chained, wrote_refused, wrote_same, room_same, room_moved, fork_first, fork_then, star_sized, star_coded, opt_sized, opt_coded, plus_coded, plus_first, plus_fork, is_inv, piece_is_star, piece_is_plus, piece_is_opt, piece_is_one, atom_is, wrote_whole, forked, below, room_number, sized_of}
 use Rattle.pattern.specs.declared.reading.Read.TheVariants.{Form, Deep}
@@ -98,12 +97,12 @@ pub emit_atomic-alternatives-inner-requires : goal.emit_atomic-alternatives-inne
 emit_atomic-alternatives-inner-requires t c = let b = sym c.look.ensures ∙ c.if-look-ne40.false in let k = byte_of c.args.s.now c.args.at 40 (omega arith) b in (omega arith, omega arith, c.requires.2)
 
 pub emit_atomic-returns-in_default : goal.emit_atomic-returns-in_default
-emit_atomic-returns-in_default t c =     let b = sym c.look.ensures ∙ c.if-look-ne40.false in let k = byte_of c.args.s.now c.args.at 40 (omega arith) b in
+emit_atomic-returns-in_default t c = let b = sym c.look.ensures ∙ c.if-look-ne40.false in let k = byte_of c.args.s.now c.args.at 40 (omega arith) b in
     let y = not_ok c.alternatives-inner.result c.in_default.not-Ok in
     wrote_refused c.args.out.now c.args.o c.args.n c.args.f c.alternatives-inner.result (read c.args.s.now atom c.args.depth c.args.at) y (atom_refused c.args.s.now c.args.depth c.args.at c.requires.0 b c.if-depth-eq16.false c.alternatives-inner.result y c.alternatives-inner.ensures)
 
 pub emit_atomic-returns-then-look-ne41 : goal.emit_atomic-returns-then-look-ne41
-emit_atomic-returns-then-look-ne41 t c =     let b = sym c.look.ensures ∙ c.if-look-ne40.false in let k = byte_of c.args.s.now c.args.at 40 (omega arith) b in let q = sym c.in-Ok.is ∙ c.alternatives-inner.ensures in
+emit_atomic-returns-then-look-ne41 t c = let b = sym c.look.ensures ∙ c.if-look-ne40.false in let k = byte_of c.args.s.now c.args.at 40 (omega arith) b in let q = sym c.in-Ok.is ∙ c.alternatives-inner.ensures in
     wrote_refused c.args.out.now c.args.o c.args.n c.args.f (Form c.in-Ok.end) (read c.args.s.now atom c.args.depth c.args.at) tt (atom_unclosed c.args.s.now c.args.depth c.args.at c.requires.0 b c.if-depth-eq16.false c.in-Ok.end c.in-Ok.sum q (λ z. c.if-look-ne41.true (c.look-2.ensures ∙ z)))
 
 pub emit_atomic-overflow_add-at-2 : goal.emit_atomic-overflow_add-at-2
@@ -113,12 +112,12 @@ pub emit_atomic-overflow_add-depth-2 : goal.emit_atomic-overflow_add-depth-2
 emit_atomic-overflow_add-depth-2 t c = omega (arith, c.requires)
 
 pub emit_atomic-emit_alternatives-requires : goal.emit_atomic-emit_alternatives-requires
-emit_atomic-emit_alternatives-requires t c =     let b = sym c.look.ensures ∙ c.if-look-ne40.false in let k = byte_of c.args.s.now c.args.at 40 (omega arith) b in let q = sym c.in-Ok.is ∙ c.alternatives-inner.ensures in
+emit_atomic-emit_alternatives-requires t c = let b = sym c.look.ensures ∙ c.if-look-ne40.false in let k = byte_of c.args.s.now c.args.at 40 (omega arith) b in let q = sym c.in-Ok.is ∙ c.alternatives-inner.ensures in
     let x = atom_is c.args.s.now c.args.depth c.args.at c.requires.0 b c.if-depth-eq16.false c.in-Ok.end c.in-Ok.sum q (sym c.look-2.ensures ∙ c.if-look-ne41.false) in
     (omega arith, (omega arith, omega arith, c.requires.2, room_same (read c.args.s.now atom c.args.depth c.args.at) (read c.args.s.now alts (c.args.depth + 1) (c.args.at + 1)) (inv (read c.args.s.now alts (c.args.depth + 1) (c.args.at + 1)) q).pat c.args.n c.args.f c.args.o (length c.args.out.now) x (is_inv (read c.args.s.now alts (c.args.depth + 1) (c.args.at + 1)) c.in-Ok.end c.in-Ok.sum q) c.requires.3))
 
 pub emit_atomic-returns : goal.emit_atomic-returns
-emit_atomic-returns t c =     let b = sym c.look.ensures ∙ c.if-look-ne40.false in let k = byte_of c.args.s.now c.args.at 40 (omega arith) b in let q = sym c.in-Ok.is ∙ c.alternatives-inner.ensures in
+emit_atomic-returns t c = let b = sym c.look.ensures ∙ c.if-look-ne40.false in let k = byte_of c.args.s.now c.args.at 40 (omega arith) b in let q = sym c.in-Ok.is ∙ c.alternatives-inner.ensures in
     let x = atom_is c.args.s.now c.args.depth c.args.at c.requires.0 b c.if-depth-eq16.false c.in-Ok.end c.in-Ok.sum q (sym c.look-2.ensures ∙ c.if-look-ne41.false) in
     wrote_same _ _ _ _ (read c.args.s.now atom c.args.depth c.args.at) (read c.args.s.now alts (c.args.depth + 1) (c.args.at + 1)) (inv (read c.args.s.now alts (c.args.depth + 1) (c.args.at + 1)) q).pat c.args.n c.args.f x (is_inv (read c.args.s.now alts (c.args.depth + 1) (c.args.at + 1)) c.in-Ok.end c.in-Ok.sum q) c.emit_alternatives.ensures
 
@@ -126,7 +125,7 @@ pub emit_repeated-atomic-one-requires : goal.emit_repeated-atomic-one-requires
 emit_repeated-atomic-one-requires t c = (c.requires.0, c.requires.1, c.requires.2)
 
 pub emit_repeated-returns-in_default : goal.emit_repeated-returns-in_default
-emit_repeated-returns-in_default t c =     let y = not_ok c.atomic-one.result c.in_default.not-Ok in
+emit_repeated-returns-in_default t c = let y = not_ok c.atomic-one.result c.in_default.not-Ok in
     wrote_refused c.args.out.now c.args.o c.args.n c.args.f c.atomic-one.result (read c.args.s.now piece c.args.depth c.args.at) y (piece_refused c.args.s.now c.args.depth c.args.at c.requires.0 c.atomic-one.result y c.atomic-one.ensures)
 
 pub emit_repeated-overflow_add-n : goal.emit_repeated-overflow_add-n
@@ -157,7 +156,7 @@ pub emit_repeated-emit_atomic-a-requires : goal.emit_repeated-emit_atomic-a-requ
 emit_repeated-emit_atomic-a-requires t c = let q = sym c.in-Ok.is ∙ c.atomic-one.ensures in let g = far c.args.s.now c.args.depth c.args.at c.requires.0 atom c.in-Ok.end c.in-Ok.sum q in let x₁ = is_inv (read c.args.s.now atom c.args.depth c.args.at) c.in-Ok.end c.in-Ok.sum q in let x = piece_is_plus c.args.s.now c.args.depth c.args.at c.requires.0 c.in-Ok.end c.in-Ok.sum q (λ z. c.if-c-eq42.false (c.look-c.ensures ∙ z)) (sym c.look-c.ensures ∙ c.if-c-eq43.true) in (omega arith, (c.requires.0, c.requires.1, c.requires.2, plus_first (read c.args.s.now piece c.args.depth c.args.at) (read c.args.s.now atom c.args.depth c.args.at) (inv (read c.args.s.now atom c.args.depth c.args.at) q).pat x₁ c.args.n c.args.f c.in-Ok.sum.size (sized_of (read c.args.s.now atom c.args.depth c.args.at) q) x c.args.o (length c.args.out.now) c.requires.3))
 
 pub emit_repeated-put_fork-requires : goal.emit_repeated-put_fork-requires
-emit_repeated-put_fork-requires t c =     let q = sym c.in-Ok.is ∙ c.atomic-one.ensures in let g = far c.args.s.now c.args.depth c.args.at c.requires.0 atom c.in-Ok.end c.in-Ok.sum q in let x₁ = is_inv (read c.args.s.now atom c.args.depth c.args.at) c.in-Ok.end c.in-Ok.sum q in let x = piece_is_plus c.args.s.now c.args.depth c.args.at c.requires.0 c.in-Ok.end c.in-Ok.sum q (λ z. c.if-c-eq42.false (c.look-c.ensures ∙ z)) (sym c.look-c.ensures ∙ c.if-c-eq43.true) in
+emit_repeated-put_fork-requires t c = let q = sym c.in-Ok.is ∙ c.atomic-one.ensures in let g = far c.args.s.now c.args.depth c.args.at c.requires.0 atom c.in-Ok.end c.in-Ok.sum q in let x₁ = is_inv (read c.args.s.now atom c.args.depth c.args.at) c.in-Ok.end c.in-Ok.sum q in let x = piece_is_plus c.args.s.now c.args.depth c.args.at c.requires.0 c.in-Ok.end c.in-Ok.sum q (λ z. c.if-c-eq42.false (c.look-c.ensures ∙ z)) (sym c.look-c.ensures ∙ c.if-c-eq43.true) in
     let y = plus_fork (read c.args.s.now piece c.args.depth c.args.at) (read c.args.s.now atom c.args.depth c.args.at) (inv (read c.args.s.now atom c.args.depth c.args.at) q).pat x₁ c.args.n c.args.f c.in-Ok.sum.size (sized_of (read c.args.s.now atom c.args.depth c.args.at) q) x c.args.o (length c.args.out.now) c.requires.3 in (omega arith, below _ _ 256 c.start_at-x-then-c-eq43.ensures y.1, y.2)
 
 pub emit_repeated-shape_of-out-then-c-eq43 : goal.emit_repeated-shape_of-out-then-c-eq43

@@ -3,7 +3,6 @@ use mathlib.Core.Path.{sym, ap}
 use lib.ListN.{get_or}
 use lib.Dec.{eqb}
 use Rattle.pattern.specs.Sets.{flipped}
-use borrow.Author.Rules.{rules}
 use Rattle.pattern.proofs.writing.allows.Goals as goal
 
 pub returns-then-caret : goal.returns-then-caret

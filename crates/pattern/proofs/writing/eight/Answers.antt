@@ -1,10 +1,9 @@
 -- `eight` meets its contract: the bits from j on are known. Assumes nothing.
 use borrow.Author.Rules.{rules}
-use Prim.Native.Nat.{ℕ, ◌+◌, ◌-◌, ◌*◌, ◌≤◌}
-use mathlib.Core.Path.{◌≡◌, refl, sym, ap, ◌∙◌}
+use Prim.Native.Nat.{◌+◌, ◌-◌, ◌*◌}
+use mathlib.Core.Path.{◌≡◌, refl, sym, ◌∙◌}
 use mathlib.Core.Bool.{true, false}
 use native.Mathlib.Omega.{arith}
-use Rattle.pattern.specs.Sets.{octet}
 use Rattle.pattern.specs.Writing.{shown}
 use Rattle.pattern.proofs.Masks.{octet_byte, octet_more, octet_none, octet_all}
 use Rattle.pattern.proofs.writing.eight.Goals as goal

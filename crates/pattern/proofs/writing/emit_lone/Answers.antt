@@ -8,10 +8,9 @@ use Rattle.ground.specs.Pick.{look}
 use Rattle.net.specs.Rec.{range, tag}
 use Rattle.pattern.specs.Pat.Pat.{Byte, Any, Tag}
 use Rattle.pattern.specs.Reader.{ok, barred, single, set_at}
-use Rattle.pattern.specs.Writing.{Room, coded}
+use Rattle.pattern.specs.Writing.{Room}
 use Rattle.pattern.proofs.Laws.{byte_of, single_cut, single_escaped, single_tag, single_low, single_high, single_dot, single_set, single_barred, single_plain}
 use Rattle.pattern.proofs.Emit.{wrote_form, wrote_one, room_one, small, barred_end, wrote_read}
-use borrow.Author.Rules.{rules}
 use Rattle.pattern.proofs.writing.emit_lone.Goals as goal
 
 pub returns-then-e-eq256 : goal.returns-then-e-eq256

@@ -12,7 +12,6 @@ use Rattle.pattern.proofs.Steps.{not_ok}
 use Rattle.pattern.proofs.Emit.{wrote_one, room_one}
 use Rattle.pattern.proofs.EmitSteps.{wrote_refused}
 use Rattle.pattern.proofs.EmitSets.{set_mask, mask_long, marks_none}
-use borrow.Author.Rules.{rules}
 use Rattle.pattern.proofs.writing.emit_set.Goals as goal
 
 pub returns-in_default : goal.returns-in_default

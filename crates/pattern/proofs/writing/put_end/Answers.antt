@@ -2,7 +2,6 @@
 use native.Mathlib.Omega.{arith}
 use lib.ListN.{length-set}
 use Rattle.ground.proofs.Stores.{wrote_2}
-use borrow.Author.Rules.{rules}
 use Rattle.pattern.proofs.writing.put_end.Goals as goal
 
 pub bounds-out-o-2 : goal.bounds-out-o-2

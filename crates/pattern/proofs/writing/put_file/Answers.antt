@@ -5,7 +5,6 @@ use Rattle.net.specs.File.{rec_bytes}
 use Rattle.pattern.specs.Reader.{alts, read}
 use Rattle.pattern.specs.Writing.{coded, head_of}
 use Rattle.ground.proofs.Stores.{wrote_then}
-use borrow.Author.Rules.{rules}
 use Rattle.pattern.proofs.writing.put_file.Goals as goal
 
 pub returns : goal.returns

@@ -1,7 +1,6 @@
 -- `put_head` meets its contract. Assumes nothing.
 use native.Mathlib.Omega.{arith}
 use lib.ListN.{length-set}
-use borrow.Author.Rules.{rules}
 use Rattle.pattern.proofs.writing.put_head.Goals as goal
 
 pub bounds-out-1 : goal.bounds-out-1

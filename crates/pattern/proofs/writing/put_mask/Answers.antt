@@ -1,12 +1,9 @@
 -- `put_mask` meets its contract: k bytes of the body stand. Assumes nothing.
-use borrow.Author.Rules.{rules}
-use Prim.Native.Nat.{ℕ, ◌+◌, ◌-◌, ◌≤◌}
-use mathlib.Core.Path.{◌≡◌, refl, sym, ap, ◌∙◌}
-use mathlib.Core.List.{[]}
+use Prim.Native.Nat.{◌+◌}
+use mathlib.Core.Path.{refl, ◌∙◌}
 use native.Mathlib.Omega.{arith}
-use lib.ListN.{length, set, length-set}
-use Rattle.ground.specs.Lists.{Wrote}
-use Rattle.ground.proofs.Stores.{wrote_none, wrote_length}
+use lib.ListN.{set, length-set}
+use Rattle.ground.proofs.Stores.{wrote_length}
 use Rattle.pattern.specs.Sets.{octets}
 use Rattle.pattern.specs.Writing.{shown}
 use Rattle.pattern.proofs.Masks.{body_more, mask_wrote}

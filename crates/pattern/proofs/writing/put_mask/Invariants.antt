@@ -1,16 +1,10 @@
 -- `put_mask` meets its contract: k bytes of the body stand. Assumes nothing.
-use borrow.Author.Rules.{rules}
-use Prim.Native.Nat.{ℕ, ◌+◌, ◌-◌, ◌≤◌}
-use mathlib.Core.Path.{◌≡◌, refl, sym, ap, ◌∙◌}
-use mathlib.Core.List.{[]}
-use native.Mathlib.Omega.{arith}
-use lib.ListN.{length, set, length-set}
+use Prim.Native.Nat.{◌+◌, ◌-◌, ◌≤◌}
 use Rattle.ground.specs.Lists.{Wrote}
-use Rattle.ground.proofs.Stores.{wrote_none, wrote_length}
 use Rattle.pattern.specs.Sets.{octets}
 use Rattle.pattern.specs.Writing.{shown}
-use Rattle.pattern.proofs.Masks.{body_more, mask_wrote}
 use Rattle.pattern.proofs.writing.put_mask.Given as goal
+
 abbrev pub invariant-loop-k : goal.invariant-loop-k
 invariant-loop-k l = (l.k ≤ 32) × Wrote l.initial.out l.out (l.o + 1) (l.o + 1 + l.k) (octets (shown l.caret l.marks) l.k 0)
 

@@ -1,6 +1,5 @@
 -- `start_at` meets its contract. Assumes nothing.
 use Rattle.pattern.proofs.Emit.{start_some, start_none}
-use borrow.Author.Rules.{rules}
 use Rattle.pattern.proofs.writing.start_at.Goals as goal
 
 pub returns-then-size-eq0 : goal.returns-then-size-eq0
