@@ -1,6 +1,6 @@
 // The calls under C names, for tests, benchmarks and firmware: numbers and byte slices only.
 #![tactic(auto)]
-ghost use Rattle.std.specs.Prelude.{◌≡◌, length, get_or};
+ghost use Rattle.std.specs.Prelude.{◌≡◌, ◌≤◌, length, get_or};
 ghost use Rattle.ground.specs.Place.{place_of};
 ghost use Rattle.field.specs.Field.{cut_of, code_of, bytes_of};
 ghost use Rattle.net.specs.Count.{byte_count};
@@ -22,6 +22,16 @@ pub extern "C" fn cv_field_code(line: &[u8], from: i16, to: i16) -> u8
     field::field_code(line, from, to)
 }
 
+// A part that has room copied to the front of `out`; its length.
+fn copy(part: &[u8], out: &mut [u8]) -> usize
+    requires { length part.now ≤ length out.old }
+    ensures { Copies part.now out.old out.new result }
+{
+    let end = part.len();
+    out[..end].copy_from_slice(part);
+    end
+}
+
 // The field call's part, copied to the front of `out` if it has room; the part's length.
 #[unsafe(no_mangle)]
 pub extern "C" fn cv_field(line: &[u8], from: i16, to: i16, out: &mut [u8]) -> usize
@@ -29,7 +39,7 @@ pub extern "C" fn cv_field(line: &[u8], from: i16, to: i16, out: &mut [u8]) -> u
 {
     let part = field::field(line, from, to);
     if part.len() <= out.len() {
-        return bytes::copy(part, out);
+        return copy(part, out);
     }
     part.len()
 }
@@ -59,7 +69,7 @@ pub extern "C" fn cv_reading(line: &[u8], places: &[i16; 8], a: u8, b: u8, out: 
 {
     let part = reading::part_of(line, *places, a, b);
     if part.len() <= out.len() {
-        return bytes::copy(part, out);
+        return copy(part, out);
     }
     part.len()
 }
