@@ -1,15 +1,12 @@
 -- The set of a situation flows along its rows, row by row. Assumes nothing.
-use Prim.Native.Nat.{ℕ, zero, suc, ◌+◌, ◌^◌, ◌<◌, ◌≤◌}
-use native.Mathlib.Omega.{arith}
-use mathlib.Core.Path.{◌≡◌, refl, sym, ap, ◌∙◌, subst}
-use mathlib.Core.Bool.{Bool, true, false}
+use Prim.Native.Nat.{ℕ, ◌+◌, ◌^◌, ◌<◌}
+use mathlib.Core.Path.{◌≡◌, ap, ◌∙◌, subst}
 use mathlib.Core.Logic.{◌⊎◌, inl, inr}
-use mathlib.Core.List.{List, [], ◌∷◌}
-use lib.ListN.{length, get_or, set}
-use Rattle.card.specs.Table.{Row, Table}
+use mathlib.Core.List.{List}
+use lib.ListN.{get_or, set}
+use Rattle.card.specs.Table.{Row}
 use Rattle.card.specs.Run.{In, sit}
-use Rattle.card.specs.Decode.{row_at, rows_at, after_at, table_at}
-use Rattle.card.specs.declared.RowItem.{RowItem}
+use Rattle.card.specs.Decode.{row_at, rows_at, table_at}
 use Rattle.card.specs.declared.RowItem.TheVariants.{Leads, Ends}
 use Rattle.loader.specs.Flow.{written, flow, Spread, Words, Pass, Flowed, Listed, RowsOf}
 use Rattle.loader.proofs.Passes.{none, then, spread_keeps, row_spread, row_pass}

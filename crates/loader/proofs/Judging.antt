@@ -2,7 +2,7 @@
 use mathlib.Core.Path.{◌≡◌, refl, sym, ap, ◌∙◌, subst}
 use mathlib.Core.Bool.{Bool, true, false}
 use mathlib.Core.List.{List}
-use Prim.Native.Nat.{ℕ, ◌<◌}
+use Prim.Native.Nat.{ℕ}
 use native.Mathlib.Omega.{arith}
 use Rattle.card.specs.Table.{Table, bytes_of, Formed}
 use Rattle.card.specs.Run.{Line, Stuck}
@@ -13,7 +13,7 @@ use Rattle.card.specs.Places.{noted}
 use Rattle.card.specs.FormOk.{FormOk}
 use Rattle.card.proofs.Situations.{noted_at}
 use Rattle.ground.specs.Pick.{pick}
-use lib.ListN.{length, get_or, replicate}
+use lib.ListN.{get_or, replicate}
 use borrow.Author.Tests.{ne_eqb}
 use Rattle.loader.specs.Flow.{EmptyRead, Ready}
 use Rattle.loader.specs.Judges.{places_for, Judges}

@@ -3,19 +3,16 @@ use Prim.Native.Nat.{ℕ, ◌+◌, ◌*◌, ◌%◌, ◌^◌, ◌<◌, ◌≤◌
 use native.Mathlib.Omega.{arith}
 use mathlib.Core.Path.{◌≡◌, refl, sym, ap, ◌∙◌, subst}
 use mathlib.Core.Bool.{Bool, true, false}
-use mathlib.Core.List.{List, [], ◌∷◌}
+use mathlib.Core.List.{List}
 use lib.Bits.{bit_or}
 use lib.Dec.{eqb}
 use lib.Pow.{shl_exact}
 use borrow.Author.Tests.{eqb-true, eqb-false}
-use Rattle.card.specs.Table.{Cmd}
 use Rattle.card.specs.Decode.{cmd_at, cmds_at, after_at}
-use Rattle.card.specs.declared.Order.{Order}
 use Rattle.card.specs.declared.Order.TheVariants.{Move, Put, Stop}
 use Rattle.card.proofs.Laws.{cmds_step}
 use Rattle.card.proofs.Rows.{after_step}
 use Rattle.loader.specs.Flow.{Says, written, asked, Listed}
-use Rattle.ground.specs.Bits.{bit_of}
 
 -- the set of one register
 pub one_bit : (r : ℕ) → r < 64 → 1 * 2 ^ r % 2 ^ 64 ≡ 2 ^ r

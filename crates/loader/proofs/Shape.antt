@@ -1,16 +1,16 @@
 -- A formed table: its situations' rows have one for each byte, and each is some byte's. Assumes nothing.
-use Prim.Native.Nat.{ℕ, zero, suc, ◌+◌, ◌<◌, ◌≤◌}
+use Prim.Native.Nat.{ℕ, zero, suc, ◌<◌, ◌≤◌}
 use native.Mathlib.Omega.{arith}
 use native.Mathlib.Decide.{dec_lt}
-use mathlib.Core.Path.{◌≡◌, refl, sym, ap, ◌∙◌, subst}
+use mathlib.Core.Path.{◌≡◌, refl, ap, ◌∙◌}
 use mathlib.Core.Bool.{Bool, true, false}
-use mathlib.Core.Logic.{◌⊎◌, inl, inr, ⊎_elim}
+use mathlib.Core.Logic.{◌⊎◌, inl, inr}
 use mathlib.Core.List.{List, [], ◌∷◌}
 use lib.ListN.{length, get_or, get_or-eq_default}
 use lib.Dec.{leb}
-use borrow.Author.Tests.{le-leb, lt-leb, leb-true, leb-false}
+use borrow.Author.Tests.{le-leb, lt-leb, leb-false}
 use Rattle.ground.specs.Pick.{pick}
-use Rattle.card.specs.Table.{Cmd, move, put, Row, Sit, Table, Rising, Sets, Upward, FormedSit, FormedSits, Formed}
+use Rattle.card.specs.Table.{Row, Sit, Table, Rising, Upward, FormedSit, FormedSits, Formed}
 use Rattle.card.specs.Run.{In, hd, tl, sit, no_sit, row_for, row_in}
 
 -- ---- the rows of one situation

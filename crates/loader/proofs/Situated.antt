@@ -4,19 +4,17 @@ use native.Mathlib.Omega.{arith}
 use native.Mathlib.Decide.{dec_lt}
 use borrow.Author.Count.{below_more}
 use mathlib.Core.Path.{◌≡◌, refl, sym, ap, ◌∙◌, subst}
-use mathlib.Core.Bool.{Bool, true, false}
-use mathlib.Core.Logic.{◌⊎◌, inl, inr, ⊎_elim}
 use mathlib.Core.List.{List, [], ◌∷◌}
 use lib.ListN.{length, get_or, take, drop, get_or-eq_default}
-use Rattle.card.specs.Table.{Row, Sit, Table, Upward, Formed}
-use Rattle.card.specs.Run.{In, hd, tl, sit, no_sit}
+use Rattle.card.specs.Table.{Row, Sit, Table, Upward}
+use Rattle.card.specs.Run.{In, sit, no_sit}
 use Rattle.card.specs.Decode.{cmds_at, row_at, rows_at, after_at, after_rows, sit_at, sits_from, places_from, table_at, places_of}
 use Rattle.card.specs.declared.RowItem.{RowItem}
 use Rattle.card.specs.declared.RowItem.TheVariants.{Leads, Ends}
 use Rattle.card.proofs.Rows.{rows_step, row_whole}
 use Rattle.loader.specs.Flow.{Loud, row, end, RowsOf, Ready, RowAsks, FieldAsks, Reads, written, flow, start_set}
 use Rattle.ground.specs.Bits.{bit_of}
-use Rattle.loader.proofs.Shape.{not_in, in_table, next_in, sit_of}
+use Rattle.loader.proofs.Shape.{not_in, in_table, next_in}
 
 -- ---- the situations that a table's bytes hold
 

@@ -5,11 +5,11 @@ use native.Mathlib.Decide.{ℕ_discrete, dec_lt}
 use mathlib.Core.Path.{◌≡◌, refl, sym, ap, ◌∙◌, subst}
 use mathlib.Core.Logic.{◌⊎◌, inl, inr}
 use mathlib.Core.List.{List, [], ◌∷◌, ◌++◌}
-use lib.ListN.{length, get_or, set, replicate, length-append, get_or-eq_default, length-replicate}
+use lib.ListN.{length, set, replicate, length-append, get_or-eq_default}
 use lib.Seq.{get_or-set_same, get_or-set_other, set_out}
 use lib.IntN.{ℤ, pos, negsuc}
-use Rattle.card.specs.Table.{Cmd, move, put, Row, Sit, Table}
-use Rattle.card.specs.Run.{Bank, line_max, empties, Empty, reg, Out, ok, stuck, moved, apply, State, at, lost, arrive, sit, row_in, step, run, begun, over, In, hd, tl, EndRead, Stuck, Line}
+use Rattle.card.specs.Table.{Cmd, move, put, Table}
+use Rattle.card.specs.Run.{Bank, line_max, empties, Empty, reg, Out, ok, stuck, moved, apply, State, at, lost, arrive, sit, row_in, step, run, begun, In, EndRead}
 use Rattle.ground.specs.Lists.{Bytes}
 use Rattle.ground.proofs.Every.{bytes_more}
 use Rattle.loader.specs.Flow.{EmptyRead, Reads}

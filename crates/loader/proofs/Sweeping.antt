@@ -1,20 +1,20 @@
 -- A round over all situations, one after the other. Assumes nothing.
-use Prim.Native.Nat.{ℕ, zero, suc, ◌+◌, ◌^◌, ◌<◌, ◌≤◌}
+use Prim.Native.Nat.{ℕ, ◌+◌, ◌^◌, ◌<◌, ◌≤◌}
 use native.Mathlib.Omega.{arith}
 use native.Mathlib.Decide.{ℕ_discrete, dec_lt}
 use borrow.Author.Count.{below_more}
-use mathlib.Core.Path.{◌≡◌, refl, sym, ap, ◌∙◌, subst}
+use mathlib.Core.Path.{◌≡◌, sym, ap, ◌∙◌, subst}
 use mathlib.Core.Bool.{Bool, true, false}
-use mathlib.Core.Logic.{◌⊎◌, inl, inr, ⊎_elim}
+use mathlib.Core.Logic.{⊎_elim}
 use mathlib.Core.List.{List}
 use lib.ListN.{length, get_or, set, length-set}
 use lib.Seq.{get_or-set_same, get_or-set_other}
 use lib.Bits.{bit_or, or_lt}
 use lib.Count.{ones}
-use Rattle.card.specs.Table.{Row, Table}
+use Rattle.card.specs.Table.{Row}
 use Rattle.card.specs.Run.{In, sit}
-use Rattle.card.specs.Decode.{rows_at, table_at}
-use Rattle.loader.specs.Flow.{total, Spread, Closed, Sub, Words, Pass, Flowed, Round, Sweep, Ready}
+use Rattle.card.specs.Decode.{table_at}
+use Rattle.loader.specs.Flow.{total, Spread, Sub, Flowed, Round, Sweep, Ready}
 use Rattle.ground.specs.Bits.{bit_of}
 use Rattle.ground.proofs.Masks.{or_one, or_right, or_grows}
 use Rattle.loader.proofs.Passes.{no_flag}

@@ -1,10 +1,7 @@
 -- The rows at a place, one after the other: those passed and those to come; and the fields at a place. Assumes nothing.
 use Prim.Native.Nat.{ℕ, zero, suc, ◌+◌, ◌^◌, ◌<◌, ◌≤◌}
 use native.Mathlib.Omega.{arith}
-use native.Mathlib.Numerals.{add-one}
-use native.Mathlib.Decide.{dec_lt}
-use mathlib.Core.Path.{◌≡◌, refl, sym, ap, ◌∙◌, subst}
-use mathlib.Core.Bool.{Bool, true, false}
+use mathlib.Core.Path.{◌≡◌, refl, sym, ◌∙◌, subst}
 use mathlib.Core.Logic.{◌⊎◌, inl, inr, ⊎_elim}
 use mathlib.Core.List.{List, [], ◌∷◌}
 use lib.ListN.{length, get_or, take, drop, length-take, length-drop}
@@ -14,10 +11,9 @@ use borrow.Author.Count.{below_more}
 use Rattle.card.specs.Table.{Cmd, Row}
 use Rattle.card.specs.Run.{In, hd, tl}
 use Rattle.card.specs.Decode.{cmds_at, after_at, row_at, rows_at}
-use Rattle.card.specs.declared.RowItem.{RowItem}
 use Rattle.card.specs.declared.RowItem.TheVariants.{Leads, Ends}
 use Rattle.card.proofs.Rows.{rows_step}
-use Rattle.loader.specs.Flow.{Says, Reads, asked, RowAsks, FieldAsks}
+use Rattle.loader.specs.Flow.{Reads, asked, RowAsks, FieldAsks}
 use Rattle.ground.specs.Bits.{bit_of}
 use Rattle.ground.proofs.Masks.{not_both, bit_in, zero_bit, and_bits, and_bit}
 use Rattle.loader.proofs.Sets.{asked_reads, reads_asked}

@@ -1,10 +1,10 @@
 -- Which registers may be empty in which situation: a set of registers is a number, register r its bit r. The inner functions'
 -- contracts speak of these; the promise of `load` is `Judged` alone. Assumes nothing: these are definitions.
-use Rattle.std.specs.Prelude.{◌≡◌, Bool, true, false, List, [], ◌∷◌, ◌⊎◌, ℕ, zero, suc, ◌+◌, ◌-◌, ◌/◌, ◌%◌, ◌^◌, ◌<◌, ◌≤◌, length, get_or, take, drop}
+use Rattle.std.specs.Prelude.{◌≡◌, Bool, true, false, List, [], ◌∷◌, ◌⊎◌, ℕ, suc, ◌+◌, ◌-◌, ◌^◌, ◌<◌, ◌≤◌, length, get_or, take, drop}
 use Rattle.std.specs.Int.Bits.{bit_or, bit_xor}
 use Rattle.std.specs.Int.Count.{ones}
 use Rattle.ground.specs.Bits.{bit_of}
-use Rattle.card.specs.Table.{Cmd, move, put, Row, Sit, Table, Formed}
+use Rattle.card.specs.Table.{Cmd, move, put, Row, Table, Formed}
 use Rattle.card.specs.Run.{In, sit, Line, Stuck}
 use Rattle.card.specs.Decode.{cmds_at, after_at, rows_at, table_at, places_of}
 

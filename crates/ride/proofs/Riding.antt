@@ -9,7 +9,7 @@ use mathlib.Core.Logic.{◌⊎◌, inl, inr}
 use lib.ListN.{length, get_or, set, take, drop, length-take, length-drop, drop_of_length-le}
 use lib.Seq.{get_or-take, get_or-drop, drop-cons}
 use lib.IntN.{pos}
-use lib.Dec.{leb, eqb}
+use lib.Dec.{leb}
 use borrow.Author.Tests.{le-leb, lt-leb, eq-eqb, ne_eqb}
 use Rattle.ground.specs.Pick.{pick}
 use Rattle.ground.proofs.Tests.{lt_or_le}

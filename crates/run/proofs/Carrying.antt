@@ -1,5 +1,5 @@
 -- A list of commands read at a place and carried out, and the row of a byte. Assumes nothing.
-use Prim.Native.Nat.{ℕ, zero, suc, ◌+◌, ◌<◌, ◌≤◌}
+use Prim.Native.Nat.{ℕ, ◌+◌, ◌<◌, ◌≤◌}
 use native.Mathlib.Omega.{arith}
 use mathlib.Core.Path.{◌≡◌, refl, sym, ap, ◌∙◌, subst}
 use mathlib.Core.Logic.{◌⊎◌, inl, inr}
@@ -9,9 +9,7 @@ use lib.IntN.{ℤ, pos, negsuc}
 use Rattle.card.specs.Table.{Cmd, move, put, Row}
 use Rattle.card.specs.Run.{Bank, reg, Out, ok, stuck, moved, apply, no_row, row_for}
 use Rattle.card.specs.Decode.{cmd_at, cmds_at, after_at, row_at, rows_at}
-use Rattle.card.specs.declared.Order.{Order}
 use Rattle.card.specs.declared.Order.TheVariants.{Move, Put, Stop}
-use Rattle.card.specs.declared.RowItem.{RowItem}
 use Rattle.card.specs.declared.RowItem.TheVariants.{Leads, Ends}
 use Rattle.card.proofs.Laws.{cmds_step, at_end}
 use Rattle.card.proofs.Rows.{row_ends, row_here, row_later}

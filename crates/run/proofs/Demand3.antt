@@ -1,18 +1,17 @@
 -- Demand 3: what a taken table never does, and what a refused one does. Assumes nothing.
 use Prim.Native.Nat.{ℕ, zero, suc, ◌+◌, ◌<◌, ◌≤◌}
 use native.Mathlib.Omega.{arith}
-use native.Mathlib.Decide.{dec_lt}
-use mathlib.Core.Path.{◌≡◌, refl, sym, ap, ◌∙◌, subst}
+use mathlib.Core.Path.{◌≡◌, refl, ap, ◌∙◌, subst}
 use mathlib.Core.Bool.{Bool, true, false}
 use mathlib.Core.Logic.{◌⊎◌, inl, inr}
 use mathlib.Core.List.{List, [], ◌∷◌, map}
-use lib.ListN.{length, get_or, set, replicate}
+use lib.ListN.{length, set, replicate}
 use lib.IntN.{ℤ, pos, negsuc}
 use lib.Dec.{leb, eqb}
 use borrow.Author.Tests.{leb-true, leb-false, eqb-false}
 use Rattle.ground.specs.Pick.{pick}
 use Rattle.card.specs.Table.{Cmd, move, put, Row, Sit, Table, Upward, bytes_of, Formed}
-use Rattle.card.specs.Run.{Bank, absent, reg, empties, Out, ok, stuck, moved, apply, State, at, lost, arrive, sit, no_sit, row_for, row_in, step, run, begun, over, In, hd, tl, Stuck, Line, Told, refused, place_at, told, ends, tells}
+use Rattle.card.specs.Run.{Bank, absent, reg, empties, Out, ok, stuck, moved, apply, State, at, lost, arrive, sit, no_sit, row_for, row_in, step, run, begun, over, In, Stuck, Line, Told, refused, place_at, ends, tells}
 use Rattle.card.specs.Judged.{Judged, taken, malformed, empty_read}
 use Rattle.loader.proofs.Shape.{in_table, leads_in, next_in, sit_of, not_in}
 use Rattle.loader.proofs.Judging.{not_stuck}

@@ -1,14 +1,11 @@
 -- A run, from the judgement and the line's length. Assumes nothing.
-use Prim.Native.Nat.{ℕ, zero, suc, ◌<◌, ◌≤◌}
-use native.Mathlib.Omega.{arith}
-use mathlib.Core.Path.{◌≡◌, refl, sym, ap, ◌∙◌, subst}
-use mathlib.Core.Logic.{◌⊎◌, inl, inr}
-use mathlib.Core.List.{List, [], ◌∷◌}
+use Prim.Native.Nat.{ℕ, ◌<◌, ◌≤◌}
+use mathlib.Core.Path.{◌≡◌, sym, subst}
+use mathlib.Core.Logic.{inl}
+use mathlib.Core.List.{List}
 use lib.ListN.{length, get_or}
-use Rattle.card.specs.Table.{Table, bytes_of, Formed}
-use Rattle.card.specs.Run.{line_max, Line, Told, refused, tells, over, lost}
+use Rattle.card.specs.Run.{line_max, Told, refused, tells}
 use Rattle.ground.proofs.Every.{all_bytes}
-use Rattle.card.specs.Judged.{Judged}
 use Rattle.card.specs.Decode.{table_at}
 use Rattle.loader.specs.Judges.{Judges}
 use Rattle.loader.proofs.Judging.{not_stuck, is_formed, is_ready}

@@ -1,12 +1,10 @@
 -- A run's promise settles its result. Assumes nothing.
-use Prim.Native.Nat.{ℕ, ◌<◌, ◌≤◌}
+use Prim.Native.Nat.{ℕ}
 use native.Mathlib.Omega.{arith}
 use mathlib.Core.Path.{◌≡◌, refl, sym, ap, ◌∙◌}
 use mathlib.Core.List.{List}
-use lib.ListN.{length}
-use Rattle.card.specs.Table.{Table, bytes_of, Formed}
+use Rattle.card.specs.Table.{Table}
 use Rattle.card.specs.Run.{Told, refused, tells}
-use Rattle.card.specs.Judged.{Judged}
 use Rattle.card.proofs.Decoded.{bytes_one}
 use Rattle.loader.proofs.Judging.{judged_one}
 use Rattle.run.specs.Runs.{Runs, unfit, long, fit}

@@ -1,16 +1,15 @@
 -- A line's way through the situations of a table, byte by byte. Assumes nothing.
-use Prim.Native.Nat.{ℕ, zero, suc, ◌+◌, ◌<◌, ◌≤◌}
+use Prim.Native.Nat.{ℕ, suc, ◌+◌, ◌<◌, ◌≤◌}
 use native.Mathlib.Omega.{arith}
 use native.Mathlib.Numerals.{add-one}
 use mathlib.Core.Path.{◌≡◌, refl, sym, ap, ap₂, ◌∙◌, subst}
-use mathlib.Core.Logic.{◌⊎◌, inl, inr, ⊎_elim}
+use mathlib.Core.Logic.{◌⊎◌, inl, inr}
 use mathlib.Core.List.{List, [], ◌∷◌}
 use lib.ListN.{length, get_or, drop, drop_of_length-le}
 use lib.Seq.{drop-cons}
 use Rattle.card.specs.Table.{Cmd, Row, Table}
-use Rattle.card.specs.Run.{Bank, line_max, empties, Out, ok, stuck, apply, State, at, lost, arrive, sit, row_for, row_in, step, run, begun, over}
+use Rattle.card.specs.Run.{Bank, empties, Out, ok, stuck, apply, State, at, lost, arrive, row_for, row_in, step, run, begun, over}
 use Rattle.card.specs.Decode.{cmds_at, rows_at, table_at}
-use Rattle.loader.specs.Flow.{Ready}
 use Rattle.loader.proofs.Shape.{leads_in, next_in}
 use Rattle.loader.proofs.Situated.{table_long, rows_here}
 use Rattle.run.specs.Carry.{carry, LeadsTo, Rides}

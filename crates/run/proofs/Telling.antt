@@ -1,19 +1,17 @@
 -- What the situation at the end of a line tells. Assumes nothing.
 use Prim.Native.Nat.{ℕ, ◌+◌, ◌<◌, ◌≤◌}
 use native.Mathlib.Omega.{arith}
-use native.Mathlib.Nat.{add_assoc}
-use mathlib.Core.Path.{◌≡◌, refl, sym, ap, ◌∙◌, subst}
-use mathlib.Core.Bool.{Bool, true, false}
+use mathlib.Core.Path.{◌≡◌, sym, ap, ◌∙◌, subst}
+use mathlib.Core.Bool.{Bool}
 use mathlib.Core.Logic.{◌⊎◌, inl, inr, ⊎_elim}
 use mathlib.Core.List.{List, map}
 use lib.ListN.{length, get_or, take, drop}
 use lib.Seq.{get_or-take, get_or-drop}
 use lib.IntN.{ℤ}
-use lib.Dec.{eqb}
 use borrow.Author.Tests.{eq-eqb, ne_eqb}
 use Rattle.ground.specs.Pick.{pick}
 use Rattle.card.specs.Table.{Sit, FormedSit}
-use Rattle.card.specs.Run.{Bank, State, at, over, sit, Told, refused, place_at, told, ends, tells}
+use Rattle.card.specs.Run.{Bank, at, over, sit, Told, refused, place_at, ends, tells}
 use Rattle.card.specs.Decode.{sit_at, table_at}
 use Rattle.loader.specs.Flow.{Ready}
 use Rattle.loader.proofs.Shape.{in_table}

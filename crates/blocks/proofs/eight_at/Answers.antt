@@ -1,10 +1,10 @@
 -- `blocks::eight_at` meets its contract: the first t values are read. Assumes nothing.
-use Prim.Native.Nat.{ℕ, ◌+◌, ◌-◌, ◌<◌, ◌≤◌}
+use Prim.Native.Nat.{ℕ, ◌+◌, ◌<◌}
 use native.Mathlib.Omega.{arith}
 use native.Mathlib.Decide.{ℕ_discrete}
 use mathlib.Core.Path.{◌≡◌, refl, sym, ap, ◌∙◌}
 use mathlib.Core.List.{List}
-use lib.ListN.{length, get_or, set, length-set}
+use lib.ListN.{get_or, set, length-set}
 use lib.Seq.{get_or-set_same, get_or-set_other}
 use lib.IntN.{ℤ, pos}
 use mir.Val.{SFits}

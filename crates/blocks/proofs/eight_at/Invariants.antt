@@ -1,17 +1,10 @@
 -- `blocks::eight_at` meets its contract: the first t values are read. Assumes nothing.
 use Prim.Native.Nat.{ℕ, ◌+◌, ◌-◌, ◌<◌, ◌≤◌}
-use native.Mathlib.Omega.{arith}
-use native.Mathlib.Decide.{ℕ_discrete}
-use mathlib.Core.Path.{◌≡◌, refl, sym, ap, ◌∙◌}
+use mathlib.Core.Path.{◌≡◌}
 use mathlib.Core.List.{List}
-use lib.ListN.{length, get_or, set, length-set}
-use lib.Seq.{get_or-set_same, get_or-set_other}
+use lib.ListN.{length, get_or}
 use lib.IntN.{ℤ, pos}
-use mir.Val.{SFits}
-use mir.Syntax.{w16}
-use mir.ValLaws.{to_z-of_z}
 use Rattle.card.specs.Run.{Bank, reg}
-use borrow.Author.Rules.{rules}
 use Rattle.blocks.proofs.eight_at.Given as goal
 
 abbrev pub Read : Bank → (f : ℕ) → List ℤ → ℕ → Type 0

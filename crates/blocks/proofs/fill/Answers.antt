@@ -1,14 +1,12 @@
 -- `blocks::fill` meets its contract: the SETs left, on the bank so far, are the whole. Assumes nothing.
-use Prim.Native.Nat.{◌+◌, ◌-◌, ◌≤◌}
+use Prim.Native.Nat.{◌+◌}
 use native.Mathlib.Omega.{arith}
 use borrow.Author.Rules.{rules}
-use mathlib.Core.Path.{◌≡◌, ◌∙◌}
+use mathlib.Core.Path.{◌∙◌}
 use lib.IntN.{pos}
 use mir.Syntax.{w16}
 use mir.ValLaws.{to_z-of_z}
 use Rattle.ground.proofs.Places.{place_fits}
-use Rattle.run.specs.Carry.{carry}
-use Rattle.image.specs.Image.{puts}
 use Rattle.blocks.proofs.Blockwise.{fill_first, fill_next, fill_last}
 use Rattle.blocks.proofs.fill.Goals as goal
 

@@ -1,15 +1,8 @@
 -- `blocks::fill` meets its contract: the SETs left, on the bank so far, are the whole. Assumes nothing.
 use Prim.Native.Nat.{◌+◌, ◌-◌, ◌≤◌}
-use native.Mathlib.Omega.{arith}
-use borrow.Author.Rules.{rules}
-use mathlib.Core.Path.{◌≡◌, ◌∙◌}
-use lib.IntN.{pos}
-use mir.Syntax.{w16}
-use mir.ValLaws.{to_z-of_z}
-use Rattle.ground.proofs.Places.{place_fits}
+use mathlib.Core.Path.{◌≡◌}
 use Rattle.run.specs.Carry.{carry}
 use Rattle.image.specs.Image.{puts}
-use Rattle.blocks.proofs.Blockwise.{fill_first, fill_next, fill_last}
 use Rattle.blocks.proofs.fill.Given as goal
 abbrev pub invariant-loop-i : goal.invariant-loop-i
 invariant-loop-i l = (l.i ≤ l.a + l.k) × (carry (puts l.i (l.a + l.k - l.i)) l.place l.initial.bank l.bank ≡ carry (puts l.a l.k) l.place l.initial.bank l.initial.bank)

@@ -1,5 +1,4 @@
 -- `blocks::move_eight` meets its contract. Assumes nothing.
-use borrow.Author.Rules.{rules}
 use Rattle.blocks.proofs.move_eight.Goals as goal
 
 pub returns : goal.returns

@@ -2,7 +2,6 @@
 use Rattle.image.proofs.Blocks.{no_misfit}
 use Rattle.blocks.proofs.Blockwise.{blocked_past, blocked_down, blocked_done}
 use native.Mathlib.Omega.{arith}
-use borrow.Author.Rules.{rules}
 use Rattle.blocks.proofs.obey_block.Goals as goal
 
 pub returns-then-to-n-gt64 : goal.returns-then-to-n-gt64

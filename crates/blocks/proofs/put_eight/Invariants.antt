@@ -1,18 +1,11 @@
 -- `blocks::put_eight` meets its contract: what is left of the eight MOVEs, on the bank so far, is the whole. Assumes nothing.
 use Prim.Native.Nat.{ℕ, ◌-◌, ◌≤◌}
-use native.Mathlib.Omega.{arith}
-use mathlib.Core.Path.{◌≡◌, ◌∙◌}
-use lib.ListN.{get_or}
-use lib.IntN.{pos}
-use mir.Val.{SFits}
-use mir.Syntax.{w16}
-use mir.ValLaws.{to_z-of_z}
+use mathlib.Core.Path.{◌≡◌}
 use Rattle.card.specs.Run.{Bank}
 use Rattle.run.specs.Carry.{carry}
 use Rattle.image.specs.Image.{moves}
 use Rattle.blocks.specs.Blocked.{Held}
-use Rattle.blocks.proofs.Blockwise.{from, move_first, move_next, move_last}
-use borrow.Author.Rules.{rules}
+use Rattle.blocks.proofs.Blockwise.{from}
 use Rattle.blocks.proofs.put_eight.Given as goal
 abbrev pub invariant-loop-t : goal.invariant-loop-t
 invariant-loop-t l = (l.t ≤ 8) × ((old : Bank) (f p : ℕ) → Held old f l.v → from p old l.a f 8 l.t l.bank ≡ carry (moves l.a f 8) p old l.initial.bank)

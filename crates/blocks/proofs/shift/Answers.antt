@@ -1,11 +1,7 @@
 -- `blocks::shift` meets its contract: the MOVEs above are done. Assumes nothing.
-use Prim.Native.Nat.{ℕ, ◌+◌, ◌-◌, ◌≤◌}
 use native.Mathlib.Omega.{arith}
 use borrow.Author.Rules.{rules}
-use mathlib.Core.Path.{◌≡◌}
 use Rattle.blocks.proofs.Blockwise.{shift_first, shift_next, shift_last}
-use Rattle.run.specs.Carry.{carry}
-use Rattle.image.specs.Image.{moves}
 use Rattle.blocks.proofs.shift.Goals as goal
 
 pub loop-i-init : goal.loop-i-init

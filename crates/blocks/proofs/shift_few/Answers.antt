@@ -1,8 +1,8 @@
 -- `blocks::shift_few` meets its contract: the MOVEs above are done. Assumes nothing.
-use Prim.Native.Nat.{ℕ, ◌+◌, ◌-◌, ◌≤◌}
+use Prim.Native.Nat.{◌+◌, ◌-◌}
 use native.Mathlib.Omega.{arith}
 use borrow.Author.Rules.{rules}
-use mathlib.Core.Path.{◌≡◌, refl}
+use mathlib.Core.Path.{refl}
 use lib.ListN.{get_or}
 use lib.IntN.{pos}
 use mir.Val.{SFits}
@@ -10,7 +10,6 @@ use mir.Syntax.{w16}
 use mir.ValLaws.{to_z-of_z}
 use Rattle.blocks.proofs.Blockwise.{shift_first, shift_next, shift_done}
 use Rattle.run.specs.Carry.{carry}
-use Rattle.image.specs.Image.{moves}
 use Rattle.blocks.proofs.shift_few.Goals as goal
 
 pub loop-i-init : goal.loop-i-init

@@ -1,14 +1,6 @@
 -- `blocks::shift_few` meets its contract: the MOVEs above are done. Assumes nothing.
 use Prim.Native.Nat.{ℕ, ◌+◌, ◌-◌, ◌≤◌}
-use native.Mathlib.Omega.{arith}
-use borrow.Author.Rules.{rules}
-use mathlib.Core.Path.{◌≡◌, refl}
-use lib.ListN.{get_or}
-use lib.IntN.{pos}
-use mir.Val.{SFits}
-use mir.Syntax.{w16}
-use mir.ValLaws.{to_z-of_z}
-use Rattle.blocks.proofs.Blockwise.{shift_first, shift_next, shift_done}
+use mathlib.Core.Path.{◌≡◌}
 use Rattle.run.specs.Carry.{carry}
 use Rattle.image.specs.Image.{moves}
 use Rattle.blocks.proofs.shift_few.Given as goal

@@ -5,7 +5,6 @@ use Rattle.card.proofs.Rows.{row_whole}
 use Rattle.card.specs.Decode.{cmds_at}
 use Prim.Native.Nat.{◌+◌}
 use Rattle.image.proofs.Entries.{kind_few, entry_ends, entry_sorted}
-use borrow.Author.Rules.{rules}
 use Rattle.image.proofs.entry_at.Goals as goal
 
 pub returns-in_default : goal.returns-in_default

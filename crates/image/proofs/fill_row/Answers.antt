@@ -1,10 +1,7 @@
 -- `image::fill_row` meets its contract: the invariant is `Filling`. Assumes nothing.
 use mathlib.Core.Path.{◌∙◌}
-use Prim.Native.Nat.{◌-◌}
 use native.Mathlib.Omega.{arith}
-use borrow.Author.Rules.{rules}
-use mathlib.Core.Logic.{⊎_elim}
-use Rattle.image.proofs.Written.{Filling, filling_none, filling_new, filling_same, filling_all}
+use Rattle.image.proofs.Written.{filling_none, filling_new, filling_same, filling_all}
 use Rattle.image.proofs.fill_row.Goals as goal
 use Rattle.image.proofs.fill_row.Goals.{then-p-i, else-p-i}
 

@@ -1,10 +1,6 @@
 -- `image::fill_row` meets its contract: the invariant is `Filling`. Assumes nothing.
-use mathlib.Core.Path.{◌∙◌}
 use Prim.Native.Nat.{◌-◌}
-use native.Mathlib.Omega.{arith}
-use borrow.Author.Rules.{rules}
-use mathlib.Core.Logic.{⊎_elim}
-use Rattle.image.proofs.Written.{Filling, filling_none, filling_new, filling_same, filling_all}
+use Rattle.image.proofs.Written.{Filling}
 use Rattle.image.proofs.fill_row.Given as goal
 abbrev pub invariant-loop-b : goal.invariant-loop-b
 invariant-loop-b l = Filling l.s l.at l.from l.initial.image l.image l.i l.e l.b

@@ -1,6 +1,5 @@
 -- `image::mount` meets its contract. Assumes nothing.
 use Rattle.image.proofs.Mounting.{mounts_unfit, mounts_small, mountable, mounts_written}
-use borrow.Author.Rules.{rules}
 use Rattle.image.proofs.mount.Goals as goal
 
 pub returns-then-code-ne0 : goal.returns-then-code-ne0

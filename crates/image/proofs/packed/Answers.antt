@@ -1,7 +1,6 @@
 -- `image::packed` meets its contract. Assumes nothing.
 use mathlib.Core.Path.{refl}
 use Rattle.image.specs.Image.{entry}
-use borrow.Author.Rules.{rules}
 use Rattle.image.proofs.packed.Goals as goal
 
 pub returns : goal.returns

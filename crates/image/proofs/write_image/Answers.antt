@@ -1,9 +1,7 @@
 -- `image::write_image` meets its contract: the invariant is `Written`. Assumes nothing.
-use Prim.Native.Nat.{◌-◌}
 use native.Mathlib.Omega.{arith}
-use borrow.Author.Rules.{rules}
 use Rattle.loader.proofs.Situated.{count_most, room_here}
-use Rattle.image.proofs.Written.{Written, written_none, written_on, written_all}
+use Rattle.image.proofs.Written.{written_none, written_on, written_all}
 use Rattle.image.proofs.write_image.Goals as goal
 
 pub loop-q-init : goal.loop-q-init

@@ -1,9 +1,6 @@
 -- `image::write_image` meets its contract: the invariant is `Written`. Assumes nothing.
 use Prim.Native.Nat.{◌-◌}
-use native.Mathlib.Omega.{arith}
-use borrow.Author.Rules.{rules}
-use Rattle.loader.proofs.Situated.{count_most, room_here}
-use Rattle.image.proofs.Written.{Written, written_none, written_on, written_all}
+use Rattle.image.proofs.Written.{Written}
 use Rattle.image.proofs.write_image.Given as goal
 abbrev pub invariant-loop-q : goal.invariant-loop-q
 invariant-loop-q l = Written l.s l.initial.image l.image l.q

@@ -1,6 +1,5 @@
 -- `loader::empty_read` meets its contract: the settled sets decide. Assumes nothing.
 use Rattle.loader.proofs.Verdict.{verdict}
-use borrow.Author.Rules.{rules}
 use Rattle.loader.proofs.empty_read.Goals as goal
 
 pub returns : goal.returns

@@ -1,13 +1,10 @@
 -- `loader::fields_ask` meets its contract: the invariant is `Unread`. Assumes nothing.
-use Prim.Native.Nat.{ℕ, ◌+◌, ◌-◌, ◌≤◌}
+use Prim.Native.Nat.{◌+◌}
 use native.Mathlib.Omega.{arith}
-use mathlib.Core.Logic.{⊎_elim}
 use mir.Val.{Fits}
 use mir.Syntax.{w64}
-use borrow.Author.Rules.{rules}
-use lib.ListN.{length}
 use Rattle.loader.proofs.Listing.{says_yes, says_no}
-use Rattle.loader.proofs.Walk.{Unread, field_asks, no_fields, next_field, high_field}
+use Rattle.loader.proofs.Walk.{field_asks, no_fields, next_field, high_field}
 use Rattle.loader.proofs.fields_ask.Goals as goal
 use Rattle.loader.proofs.fields_ask.Goals.{then-f-lt64+else-holds, else-f-lt64}
 

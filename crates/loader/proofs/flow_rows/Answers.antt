@@ -1,13 +1,11 @@
 -- `loader::flow_rows` meets its contract: the invariant is `Flowing`. Assumes nothing.
-use Prim.Native.Nat.{ℕ, ◌-◌, ◌<◌}
-use mathlib.Core.Path.{◌≡◌, refl, sym, ◌∙◌}
+use mathlib.Core.Path.{sym, ◌∙◌}
 use native.Mathlib.Omega.{arith}
 use borrow.Author.Rules.{rules}
-use lib.ListN.{length, get_or}
 use mir.Val.{Fits}
 use mir.Syntax.{w64}
 use Rattle.card.proofs.Rows.{row_whole}
-use Rattle.loader.proofs.Flowing.{Flowing, flowing_none, flowing_end, flowing_in, flowing_on}
+use Rattle.loader.proofs.Flowing.{flowing_none, flowing_end, flowing_in, flowing_on}
 use Rattle.loader.proofs.flow_rows.Goals as goal
 
 pub offset_bounds-may-q : goal.offset_bounds-may-q

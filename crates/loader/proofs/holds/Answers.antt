@@ -1,8 +1,6 @@
 -- `loader::holds` meets its contract: the test is that of the bit. Assumes nothing.
 use Prim.Native.Nat.{◌/◌, ◌%◌, ◌^◌}
-use Rattle.ground.specs.Bits.{bit_of}
 use Rattle.loader.proofs.Listing.{says_equal}
-use borrow.Author.Rules.{rules}
 use Rattle.loader.proofs.holds.Goals as goal
 
 pub returns : goal.returns

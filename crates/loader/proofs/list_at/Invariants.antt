@@ -1,11 +1,7 @@
 -- `loader::list_at` meets its contract: the invariant is `Listing`. Assumes nothing.
-use Prim.Native.Nat.{ℕ, ◌-◌}
-use mathlib.Core.Path.{◌≡◌, sym, ◌∙◌}
-use native.Mathlib.Omega.{arith}
-use borrow.Author.Rules.{rules}
+use Prim.Native.Nat.{◌-◌}
 use lib.ListN.{length}
-use Rattle.card.proofs.Laws.{move_facts, put_facts}
-use Rattle.loader.proofs.Listing.{Listing, listing_none, listing_move, listing_put, listing_stop}
+use Rattle.loader.proofs.Listing.{Listing}
 use Rattle.loader.proofs.list_at.Given as goal
 abbrev pub invariant-loop-to : goal.invariant-loop-to
 invariant-loop-to l = Listing l.s l.at l.writes l.reads l.i

@@ -1,14 +1,12 @@
 -- `loader::rows_ask` meets its contract: of the rows passed none reads a register of the set. Assumes nothing.
-use Prim.Native.Nat.{ℕ, ◌-◌}
-use mathlib.Core.Path.{◌≡◌, sym, ◌∙◌}
+use mathlib.Core.Path.{sym, ◌∙◌}
 use mathlib.Core.Logic.{inl}
 use native.Mathlib.Omega.{arith}
 use borrow.Author.Rules.{rules}
-use lib.ListN.{length}
 use mir.Val.{Fits}
 use mir.Syntax.{w64}
 use Rattle.card.proofs.Rows.{row_whole}
-use Rattle.loader.proofs.Walk.{Back, Done, Unasked, row_of, row_in, back_next, done_next, asks_none, asks_one, no_asks}
+use Rattle.loader.proofs.Walk.{row_in, back_next, done_next, asks_none, asks_one, no_asks}
 use Rattle.loader.proofs.rows_ask.Goals as goal
 
 pub loop-g-init : goal.loop-g-init

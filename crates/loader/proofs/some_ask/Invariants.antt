@@ -1,12 +1,7 @@
 -- `loader::some_ask` meets its contract: of the situations passed none reads a register of its set. Assumes nothing.
 use Prim.Native.Nat.{ℕ, ◌-◌, ◌<◌, ◌≤◌}
-use mathlib.Core.Path.{◌≡◌, sym}
-use native.Mathlib.Omega.{arith}
-use borrow.Author.Rules.{rules}
-use lib.ListN.{get_or}
 use Rattle.card.specs.Decode.{table_at}
-use Rattle.loader.proofs.Listing.{says_yes, says_no}
-use Rattle.loader.proofs.Situated.{Unheard, count_most, room_here, loud_field, loud_row, unheard_next, unheard_all}
+use Rattle.loader.proofs.Situated.{Unheard}
 use Rattle.loader.proofs.some_ask.Given as goal
 abbrev pub invariant-loop-q : goal.invariant-loop-q
 invariant-loop-q l = (l.q ≤ l.count) × ((p : ℕ) → p < l.q → Unheard (table_at l.s) l.may p)

@@ -1,12 +1,10 @@
 -- `loader::sweep` meets its contract: the invariant is `Sweeping`. Assumes nothing.
-use Prim.Native.Nat.{ℕ, ◌-◌, ◌<◌, ◌≤◌}
-use mathlib.Core.Path.{◌≡◌, refl, sym}
-use mathlib.Core.Logic.{⊎_elim}
+use Prim.Native.Nat.{◌<◌}
+use mathlib.Core.Path.{refl}
 use native.Mathlib.Omega.{arith}
-use borrow.Author.Rules.{rules}
 use lib.ListN.{get_or}
 use Rattle.loader.proofs.Situated.{count_most, room_here, rows_of}
-use Rattle.loader.proofs.Sweeping.{Sweeping, sweeping_none, sweeping_same, sweeping_more, sweeping_all}
+use Rattle.loader.proofs.Sweeping.{sweeping_none, sweeping_same, sweeping_more, sweeping_all}
 use Rattle.loader.proofs.sweep.Goals as goal
 use Rattle.loader.proofs.sweep.Goals.{then-all-old, else-all-old}
 

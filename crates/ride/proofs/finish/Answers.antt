@@ -1,7 +1,6 @@
 -- `ride::finish` meets its contract. Assumes nothing.
 use mathlib.Core.Path.{◌∙◌}
 use Rattle.ride.proofs.Lines.{limit_is}
-use borrow.Author.Rules.{rules}
 use Rattle.ride.proofs.finish.Goals as goal
 
 pub ride_rest-row-requires : goal.ride_rest-row-requires

@@ -1,6 +1,5 @@
 -- `ride::obey` meets its contract: a block, past the end, SETs only, any. Assumes nothing.
 use Rattle.ride.proofs.Obeying.{obeyed_block, obeyed_past, obeyed_sets, obeyed_all}
-use borrow.Author.Rules.{rules}
 use Rattle.ride.proofs.obey.Goals as goal
 
 pub returns-then-kind-eq1 : goal.returns-then-kind-eq1

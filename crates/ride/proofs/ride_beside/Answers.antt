@@ -3,7 +3,6 @@ use mathlib.Core.Path.{◌∙◌}
 use native.Mathlib.Omega.{arith}
 use Rattle.ride.proofs.Answering.{ridden_long, ridden_on}
 use Rattle.ride.proofs.Lines.{glides, begins_so}
-use borrow.Author.Rules.{rules}
 use Rattle.ride.proofs.ride_beside.Goals as goal
 
 pub returns-then-line-gt-LINE_MAX : goal.returns-then-line-gt-LINE_MAX

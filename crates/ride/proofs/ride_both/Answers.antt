@@ -4,7 +4,6 @@ use mathlib.Core.Logic.{inr}
 use native.Mathlib.Omega.{arith}
 use Rattle.ride.proofs.Riding.{reached_on}
 use Rattle.ride.proofs.Lines.{glides, glides_on, rest_so, end_so}
-use borrow.Author.Rules.{rules}
 use Rattle.ride.proofs.ride_both.Goals as goal
 
 pub glide_two-g-requires : goal.glide_two-g-requires

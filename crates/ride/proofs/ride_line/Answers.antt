@@ -1,9 +1,7 @@
 -- `ride::ride_line` meets its contract. Assumes nothing.
 use mathlib.Core.Path.{◌∙◌}
-use mathlib.Core.Logic.{⊎_elim, inr}
-use native.Mathlib.Omega.{arith}
+use mathlib.Core.Logic.{inr}
 use Rattle.ride.proofs.Lines.{limit_is, glides, glides_on, rest_so, end_so}
-use borrow.Author.Rules.{rules}
 use Rattle.ride.proofs.ride_line.Goals as goal
 use Rattle.ride.proofs.ride_line.Goals.{then-g-line, else-g-line}
 

@@ -1,16 +1,13 @@
 -- `ride::ride_rest` meets its contract: the invariant is `Going`. Assumes nothing.
-use Prim.Native.Nat.{◌+◌, ◌-◌}
+use Prim.Native.Nat.{◌+◌}
 use native.Mathlib.Omega.{arith}
 use mathlib.Core.Path.{refl}
-use mathlib.Core.Logic.{inl, inr, ⊎_elim}
-use lib.ListN.{length}
+use mathlib.Core.Logic.{inl, inr}
 use lib.IntN.{pos}
 use mir.Syntax.{w16}
 use mir.ValLaws.{to_z-of_z}
-use borrow.Author.Tests.{not-true, not-false}
 use Rattle.ground.proofs.Places.{place_fits}
-use borrow.Author.Rules.{rules}
-use Rattle.ride.proofs.Riding.{in_image, went_on, went_round, Going, going_none, going_ends, going_stay, going_astray, going_one, going_obeyed, going_missed}
+use Rattle.ride.proofs.Riding.{in_image, went_on, went_round, going_none, going_ends, going_stay, going_astray, going_one, going_obeyed, going_missed}
 use Rattle.ride.proofs.ride_rest.Goals as goal
 use Rattle.ride.proofs.ride_rest.Goals.{then-next-row+else-limit-next, else-next-row}
 

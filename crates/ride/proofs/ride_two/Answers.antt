@@ -2,7 +2,6 @@
 use mathlib.Core.Path.{◌∙◌}
 use Rattle.ride.proofs.Answering.{ridden_none, ridden_small, ridden_long, ridden_on}
 use Rattle.ride.proofs.Lines.{fits}
-use borrow.Author.Rules.{rules}
 use Rattle.ride.proofs.ride_two.Goals as goal
 
 pub returns-then-count-eq0 : goal.returns-then-count-eq0

@@ -1,17 +1,11 @@
 -- `ride::set_list` meets its contract: what is left to carry out, on the bank so far, is the whole. Assumes nothing.
-use Prim.Native.Nat.{◌-◌}
-use mathlib.Core.Path.{◌≡◌, refl, sym, ◌∙◌}
+use mathlib.Core.Path.{refl, sym, ◌∙◌}
 use native.Mathlib.Omega.{arith}
-use borrow.Author.Rules.{rules}
-use lib.ListN.{length}
 use lib.IntN.{pos}
 use mir.Syntax.{w16}
 use mir.ValLaws.{to_z-of_z}
 use Rattle.ground.proofs.Places.{place_fits}
-use Rattle.card.specs.Decode.{cmds_at}
 use Rattle.card.proofs.Laws.{put_facts}
-use Rattle.run.specs.Carry.{carry}
-use Rattle.ride.specs.Ride.{only_sets}
 use Rattle.ride.proofs.Obeying.{sets_put, sets_move, sets_stop}
 use Rattle.ride.proofs.set_list.Goals as goal
 

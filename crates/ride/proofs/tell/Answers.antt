@@ -3,7 +3,6 @@ use Prim.Native.Nat.{◌+◌}
 use mathlib.Core.Path.{◌∙◌}
 use lib.ListN.{take, drop}
 use Rattle.ride.proofs.Telling.{tell_short, tell_none, tell_some, regs_fields}
-use borrow.Author.Rules.{rules}
 use Rattle.ride.proofs.tell.Goals as goal
 
 pub returns-then-s-at : goal.returns-then-s-at

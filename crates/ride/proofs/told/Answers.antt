@@ -7,7 +7,6 @@ use Rattle.ride.specs.Need.{regs}
 use mathlib.Core.Path.{ap, ◌∙◌}
 use mathlib.Core.Logic.{⊎_elim}
 use Rattle.ride.proofs.Riding.{ended_astray, ended_here}
-use borrow.Author.Rules.{rules}
 use Rattle.ride.proofs.told.Goals as goal
 
 pub returns-then-row-eq-ASTRAY : goal.returns-then-row-eq-ASTRAY

@@ -1,6 +1,4 @@
 -- `run::fields_at` meets its contract: the invariant is `Filled`. Assumes nothing.
-use Prim.Native.Nat.{◌-◌}
-use mathlib.Core.Logic.{⊎_elim}
 use native.Mathlib.Omega.{arith}
 use borrow.Author.Rules.{rules}
 use lib.ListN.{get_or}
@@ -8,7 +6,7 @@ use lib.IntN.{pos}
 use mir.Val.{SFits}
 use mir.Syntax.{w16}
 use mir.ValLaws.{to_z-of_z}
-use Rattle.run.proofs.Filling.{Filled, filled_none, filled_held, filled_absent, filled_all}
+use Rattle.run.proofs.Filling.{filled_none, filled_held, filled_absent, filled_all}
 use Rattle.run.proofs.fields_at.Goals as goal
 use Rattle.run.proofs.fields_at.Goals.{then-f-lt64, else-f-lt64}
 

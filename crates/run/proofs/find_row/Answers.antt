@@ -1,11 +1,6 @@
 -- `run::find_row` meets its contract: the byte's row among those left is its row. Assumes nothing.
-use Prim.Native.Nat.{ℕ, ◌-◌}
-use mathlib.Core.Path.{◌≡◌, refl, sym, ◌∙◌}
+use mathlib.Core.Path.{refl, sym, ◌∙◌}
 use native.Mathlib.Omega.{arith}
-use borrow.Author.Rules.{rules}
-use lib.ListN.{length}
-use Rattle.card.specs.Run.{row_for}
-use Rattle.card.specs.Decode.{rows_at}
 use Rattle.card.proofs.Rows.{row_whole}
 use Rattle.run.proofs.Carrying.{lead_none, lead_here, lead_later}
 use Rattle.run.proofs.find_row.Goals as goal

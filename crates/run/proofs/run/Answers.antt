@@ -1,6 +1,5 @@
 -- `run::run` meets its contract: the judgement, then the length, then what the table tells. Assumes nothing.
 use Rattle.run.proofs.Joining.{runs_unfit, runs_long, rides, runs_fit}
-use borrow.Author.Rules.{rules}
 use Rattle.run.proofs.run.Goals as goal
 
 pub returns-then-code-ne0 : goal.returns-then-code-ne0

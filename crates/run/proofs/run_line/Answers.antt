@@ -1,10 +1,7 @@
 -- `run::run_line` meets its contract: the invariant is `Riding`. Assumes nothing.
-use Prim.Native.Nat.{ℕ, ◌+◌, ◌-◌, ◌<◌, ◌≤◌}
-use mathlib.Core.Path.{◌≡◌, refl, sym, ap, ◌∙◌, subst}
+use Prim.Native.Nat.{ℕ}
+use mathlib.Core.Path.{sym, ap, ◌∙◌, subst}
 use native.Mathlib.Omega.{arith}
-use borrow.Author.Rules.{rules}
-use borrow.Author.Tests.{not-true, not-false}
-use lib.ListN.{length, get_or}
 use Rattle.loader.proofs.Situated.{count_most, room_here}
 use Rattle.card.specs.Run.{Bank}
 use Rattle.card.specs.Decode.{cmds_at}
@@ -34,7 +31,7 @@ loop-i-preserved-then-not-alone c =     let g = subst (λ (q : ℕ). Riding c.ar
 
 pub loop-i-preserved : goal.loop-i-preserved
 loop-i-preserved c =     let g = subst (λ (q : ℕ). Riding c.args.s.now c.args.line.now q c.loop-i.bank.r c.loop-i.i) (sym c.wide-q.ensures) c.loop-i.invariant in
-    riding_next c.requires g _ _ _ c.loop-i-test.true (c.type_inv.line c.loop-i.i).fits c.find_row-row.ensures (carry_none _ _ _ _ (c.alone.ensures.none (not-false _ c.if-not-alone.false-raw)))
+    riding_next c.requires g _ _ _ c.loop-i-test.true (c.type_inv.line c.loop-i.i).fits c.find_row-row.ensures (carry_none _ _ _ _ (c.alone.ensures.none c.if-not-alone.false))
 
 pub returns : goal.returns
 returns c = (riding_end c.requires c.loop-i-test.false c.loop-i.invariant, c.loop-i.invariant.inside)

@@ -1,9 +1,8 @@
 -- `run::run_taken` meets its contract: the last situation and the bank tell the result. Assumes nothing.
 use Prim.Native.Nat.{ℕ, ◌<◌}
-use mathlib.Core.Path.{ap, sym, ◌∙◌}
+use mathlib.Core.Path.{ap, ◌∙◌}
 use native.Mathlib.Omega.{arith}
 use lib.ListN.{get_or}
-use Rattle.ground.proofs.Lists.{unmapped}
 use Rattle.card.specs.Run.{at}
 use Rattle.loader.proofs.Situated.{count_most}
 use Rattle.run.proofs.Filling.{told_fields}

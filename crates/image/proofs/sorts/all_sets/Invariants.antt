@@ -1,13 +1,9 @@
 -- `image::sorts::all_sets` meets its contract: the list left has a MOVE where the whole has one. Assumes nothing.
 use Prim.Native.Nat.{◌-◌}
-use mathlib.Core.Path.{◌≡◌, refl, sym, ◌∙◌}
-use native.Mathlib.Omega.{arith}
-use borrow.Author.Rules.{rules}
+use mathlib.Core.Path.{◌≡◌}
 use lib.ListN.{length}
 use Rattle.card.specs.Decode.{cmds_at}
-use Rattle.card.proofs.Laws.{put_facts}
 use Rattle.image.specs.Image.{all_sets}
-use Rattle.image.proofs.Entries.{all_put, all_move, all_stop}
 use Rattle.image.proofs.sorts.all_sets.Given as goal
 abbrev pub invariant-loop-i : goal.invariant-loop-i
 invariant-loop-i l = all_sets (cmds_at l.s l.i) ≡ all_sets (cmds_at l.s l.at)

@@ -1,7 +1,6 @@
 -- `image::sorts::first_from` meets its contract. Assumes nothing.
 use mathlib.Core.Path.{sym, ◌∙◌}
 use Rattle.image.proofs.Entries.{from_move, from_put, from_stop}
-use borrow.Author.Rules.{rules}
 use Rattle.image.proofs.sorts.first_from.Goals as goal
 
 pub returns-in-Move : goal.returns-in-Move

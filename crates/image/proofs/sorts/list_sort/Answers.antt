@@ -1,7 +1,6 @@
 -- `image::sorts::list_sort` meets its contract. Assumes nothing.
 use mathlib.Core.Path.{sym, ◌∙◌}
 use Rattle.image.proofs.Entries.{sort_stop, sort_move}
-use borrow.Author.Rules.{rules}
 use Rattle.image.proofs.sorts.list_sort.Goals as goal
 
 pub returns-in-Stop : goal.returns-in-Stop

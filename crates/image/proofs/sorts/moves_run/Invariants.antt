@@ -1,14 +1,10 @@
 -- `image::sorts::moves_run` meets its contract: the MOVEs read, then the list left, are the whole. Assumes nothing.
 use Prim.Native.Nat.{◌+◌, ◌-◌, ◌≤◌}
-use native.Mathlib.Omega.{arith}
-use borrow.Author.Rules.{rules}
-use mathlib.Core.Path.{◌≡◌, refl, sym, ◌∙◌}
+use mathlib.Core.Path.{◌≡◌}
 use mathlib.Core.List.{◌++◌}
 use lib.ListN.{length}
 use Rattle.card.specs.Decode.{cmds_at}
-use Rattle.card.proofs.Laws.{move_facts}
 use Rattle.image.specs.Image.{moves}
-use Rattle.image.proofs.Entries.{moves_more, moves_to, moves_from, moves_then, moves_end}
 use Rattle.image.proofs.sorts.moves_run.Given as goal
 abbrev pub invariant-loop-to : goal.invariant-loop-to
 invariant-loop-to l = (cmds_at l.s l.at ≡ moves l.a l.f l.n ++ cmds_at l.s l.i) × (l.a + l.n ≤ 64) × (l.f + l.n ≤ 64)

@@ -1,7 +1,6 @@
 -- `image::sorts::plain_sort` meets its contract. Assumes nothing.
 use mathlib.Core.Path.{refl, sym, ◌∙◌}
 use Rattle.ground.proofs.Picks.{picked, passed}
-use borrow.Author.Rules.{rules}
 use Rattle.image.proofs.sorts.plain_sort.Goals as goal
 
 pub returns-then-all_sets : goal.returns-then-all_sets

@@ -1,16 +1,12 @@
 -- `ride::gliding::glide` meets its contract: the invariant is `Reached`. Assumes nothing.
-use Prim.Native.Nat.{◌+◌, ◌-◌}
+use Prim.Native.Nat.{◌+◌}
 use native.Mathlib.Omega.{arith}
-use mathlib.Core.Path.{◌≡◌, refl, ◌∙◌}
-use mathlib.Core.Logic.{⊎_elim}
-use lib.ListN.{length, set}
+use mathlib.Core.Path.{refl, ◌∙◌}
 use lib.IntN.{pos}
 use mir.Syntax.{w16}
 use mir.ValLaws.{to_z-of_z}
 use Rattle.ground.proofs.Places.{place_fits}
-use Rattle.ride.specs.Need.{Reached}
 use Rattle.ride.proofs.Riding.{in_image, in_column, column_at, reached_none, reached_stay, reached_one}
-use borrow.Author.Rules.{rules}
 use Rattle.ride.proofs.gliding.glide.Goals as goal
 use Rattle.ride.proofs.gliding.glide.Goals.{then-e-row+else-e-ge-LISTED+else-limit-next, else-e-row}
 

@@ -1,9 +1,6 @@
 -- `ride::gliding::glide_two` meets its contract: the invariant is `Reached` for each line. Assumes nothing.
-use Prim.Native.Nat.{◌+◌, ◌-◌}
 use mathlib.Core.Path.{◌∙◌}
 use native.Mathlib.Omega.{arith}
-use borrow.Author.Rules.{rules}
-use Rattle.ride.specs.Need.{Reached}
 use Rattle.ride.proofs.Riding.{in_image, in_column, column_at, reached_none, reached_hop, left_alone}
 use Rattle.ride.proofs.gliding.glide_two.Goals as goal
 

@@ -4,7 +4,6 @@ use mir.Syntax.{w16}
 use mir.ValLaws.{to_z-of_z}
 use Rattle.ground.proofs.Places.{place_fits}
 use Rattle.ride.specs.Need.{stops, stays, hops}
-use borrow.Author.Rules.{rules}
 use Rattle.ride.proofs.gliding.hop.Goals as goal
 
 pub returns-then-e-row : goal.returns-then-e-row

@@ -1,7 +1,6 @@
 -- `run::lists::alone` meets its contract. Assumes nothing.
 use mathlib.Core.Path.{sym, ◌∙◌}
 use Rattle.run.proofs.Pairing.{alone_stop, alone_move, alone_put}
-use borrow.Author.Rules.{rules}
 use Rattle.run.proofs.lists.alone.Goals as goal
 
 pub returns-in-Stop : goal.returns-in-Stop

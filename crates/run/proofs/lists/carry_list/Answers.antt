@@ -1,6 +1,5 @@
 -- `run::lists::carry_list` meets its contract. Assumes nothing.
 use Rattle.run.proofs.Pairing.{carried_pair, carried_all}
-use borrow.Author.Rules.{rules}
 use Rattle.run.proofs.lists.carry_list.Goals as goal
 
 pub returns-then-pair : goal.returns-then-pair

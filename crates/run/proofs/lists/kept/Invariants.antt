@@ -1,17 +1,8 @@
 -- `run::lists::kept` meets its contract: the first t cells are kept. Assumes nothing.
-use Prim.Native.Nat.{ℕ, ◌+◌, ◌-◌, ◌<◌, ◌≤◌}
-use native.Mathlib.Omega.{arith}
-use native.Mathlib.Numerals.{add-one}
-use mathlib.Core.Path.{◌≡◌, refl, sym, ap, ◌∙◌, subst}
-use mathlib.Core.List.{[], ◌∷◌, ◌++◌}
-use lib.ListN.{length, get_or, set, take, length-set}
-use lib.Seq.{take-suc, take-suc-set, take_all}
-use lib.IntN.{pos}
-use mir.Val.{SFits}
-use mir.Syntax.{w16}
-use mir.ValLaws.{to_z-of_z}
-use Rattle.card.specs.Run.{Bank, reg}
-use borrow.Author.Rules.{rules}
+use Prim.Native.Nat.{ℕ, ◌-◌, ◌≤◌}
+use mathlib.Core.Path.{◌≡◌}
+use lib.ListN.{length, take}
+use Rattle.card.specs.Run.{Bank}
 use Rattle.run.proofs.lists.kept.Given as goal
 
 -- the first t cells are kept

@@ -1,17 +1,14 @@
 -- `run::lists::move_list` meets its contract: what is left to carry out, on the bank so far, is the whole. Assumes nothing.
-use Prim.Native.Nat.{◌-◌}
-use mathlib.Core.Path.{◌≡◌, refl, sym, ◌∙◌}
+use mathlib.Core.Path.{refl, sym, ◌∙◌}
 use native.Mathlib.Omega.{arith}
 use borrow.Author.Rules.{rules}
-use lib.ListN.{length, get_or, length-set}
+use lib.ListN.{get_or, length-set}
 use mir.Val.{SFits}
 use lib.IntN.{pos}
 use mir.Syntax.{w16}
 use mir.ValLaws.{to_z-of_z}
 use Rattle.ground.proofs.Places.{place_fits}
-use Rattle.card.specs.Decode.{cmds_at}
 use Rattle.card.proofs.Laws.{move_facts, put_facts}
-use Rattle.run.specs.Carry.{carry}
 use Rattle.run.proofs.Carrying.{carry_move, carry_put, carry_stop}
 use Rattle.run.proofs.lists.move_list.Goals as goal
 

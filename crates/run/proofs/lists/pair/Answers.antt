@@ -1,7 +1,6 @@
 -- `run::lists::pair` meets its contract: the first command by its kind, then the rest. Assumes nothing.
-use mathlib.Core.Path.{sym, ap, ◌∙◌}
+use mathlib.Core.Path.{sym, ◌∙◌}
 use native.Mathlib.Omega.{arith}
-use mathlib.Core.Logic.{⊎_elim}
 use lib.ListN.{get_or}
 use lib.IntN.{pos}
 use mir.Val.{SFits, to_z}

@@ -7,7 +7,6 @@ use mir.Syntax.{w16}
 use mir.ValLaws.{to_z-of_z}
 use Rattle.ground.proofs.Places.{place_fits}
 use native.Mathlib.Omega.{arith}
-use borrow.Author.Tests.{not-false}
 use Rattle.card.proofs.Laws.{put_facts, move_facts}
 use Rattle.run.proofs.Pairing.{tried_not, tried_none, tried_put, tried_move}
 use borrow.Author.Rules.{rules}
@@ -35,7 +34,7 @@ pub shape_of-bank-in-Put : goal.shape_of-bank-in-Put
 shape_of-bank-in-Put c = simp length-set
 
 pub returns-in-Put : goal.returns-in-Put
-returns-in-Put c = let h : SFits w16 c.args.x = search rules in rw (to_z-of_z w16 c.args.x h, c.held-v.ensures, to_z-of_z w16 (pos c.args.place) (place_fits c.args.place c.requires.0)) (tried_put _ _ _ _ _ _ (sym c.read_cmd-o.ensures ∙ c.in-Put.is) c.alone.ensures (not-false _ c.if-not-alone.false-raw) refl)
+returns-in-Put c = let h : SFits w16 c.args.x = search rules in rw (to_z-of_z w16 c.args.x h, c.held-v.ensures, to_z-of_z w16 (pos c.args.place) (place_fits c.args.place c.requires.0)) (tried_put _ _ _ _ _ _ (sym c.read_cmd-o.ensures ∙ c.in-Put.is) c.alone.ensures c.if-not-alone.false refl)
 
 pub overflow_add-at-in-Move : goal.overflow_add-at-in-Move
 overflow_add-at-in-Move c = let f = move_facts _ _ _ _ (sym c.read_cmd-o.ensures ∙ c.in-Move.is) in omega arith
@@ -59,4 +58,4 @@ pub shape_of-bank-in-Move : goal.shape_of-bank-in-Move
 shape_of-bank-in-Move c = simp length-set
 
 pub returns-in-Move : goal.returns-in-Move
-returns-in-Move c = let h : SFits w16 c.args.x = search rules in let g : SFits w16 (get_or c.args.bank.now c.in-Move.f (pos 0)) = search rules in rw (to_z-of_z w16 c.args.x h, to_z-of_z w16 (get_or c.args.bank.now c.in-Move.f (pos 0)) g) (tried_move _ _ _ _ _ _ _ (sym c.read_cmd-o.ensures ∙ c.in-Move.is) c.alone-in-Move.ensures (not-false _ c.if-not-alone-2.false-raw) refl)
+returns-in-Move c = let h : SFits w16 c.args.x = search rules in let g : SFits w16 (get_or c.args.bank.now c.in-Move.f (pos 0)) = search rules in rw (to_z-of_z w16 c.args.x h, to_z-of_z w16 (get_or c.args.bank.now c.in-Move.f (pos 0)) g) (tried_move _ _ _ _ _ _ _ (sym c.read_cmd-o.ensures ∙ c.in-Move.is) c.alone-in-Move.ensures c.if-not-alone-2.false refl)
