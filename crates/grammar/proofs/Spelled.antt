@@ -12,7 +12,7 @@ use Rattle.ground.specs.Pick.{look}
 use Rattle.ground.proofs.Lists.{follows}
 use Rattle.pattern.specs.Pat.{Pat, Empty, Byte, Set, Tag, Seq, Alt, Star, Plus, Opt}
 use Rattle.pattern.specs.Sets.{Item, fresh, scan, allows, mask_of}
-use Rattle.pattern.specs.Reader.{ok, deep, Lvl, alts, seq, piece, atom, and_then, stops, repeating, barred, set_read, set_from, set_at, repeated, closed, read}
+use Rattle.pattern.specs.Reader.{ok, Lvl, alts, seq, piece, atom, and_then, stops, repeating, barred, set_read, set_from, set_at, repeated, closed, read}
 use Rattle.pattern.specs.Grammar as grammar
 use Rattle.pattern.specs.Grammar.{Spells, ItemsSpell, SetSpells}
 use Rattle.pattern.proofs.Laws.{alts_one, alts_more, seq_none, seq_some, piece_ok, atom_lone, atom_closed, single_escaped, single_tag, single_dot, single_set, single_plain}

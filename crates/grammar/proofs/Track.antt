@@ -17,7 +17,7 @@ use Rattle.pattern.specs.Reader.{Lvl, alts, seq, piece, atom, stops, repeating, 
 use Rattle.pattern.specs.Grammar as grammar
 use Rattle.pattern.specs.Grammar.{Open}
 use Rattle.pattern.proofs.Laws.{byte_in, byte_of, went, read_good, read_step}
-use Rattle.grammar.proofs.Machine.{at, on, run, run_append}
+use Rattle.grammar.proofs.Machine.{at, run, run_append}
 use Rattle.grammar.proofs.Runs.{runs, repeat_to, fit_low, Low, low_then, Room}
 use Rattle.grammar.proofs.Parts.{no_bytes, join, byte_then, then_byte}
 use Rattle.grammar.proofs.Tracked.{Found, Track, track_then, shift, before, piece_ahead, bar_ahead, room_in, around}
