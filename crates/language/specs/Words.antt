@@ -7,8 +7,8 @@ use Rattle.pattern.specs.Pat.{Pat, Empty, Byte, Any, Set, Tag, Seq, Alt, Star, P
 abbrev pub Words : Type 1
 Words = List ℕ → Type 0
 
-abbrev pub Unit_word : Words
-Unit_word w = w ≡ []
+abbrev pub UnitWord : Words
+UnitWord w = w ≡ []
 
 -- the words of one byte that f holds of
 abbrev pub Bytes : (ℕ → Type 0) → Words
@@ -21,20 +21,20 @@ abbrev pub Product : Words → Words → Words
 Product K L w = (u : List ℕ) × (v : List ℕ) × (w ≡ u ++ v) × K u × L v
 
 abbrev pub Power : ℕ → Words → Words
-Power zero L w = Unit_word w
+Power zero L w = UnitWord w
 Power (suc n) L w = Product L (Power n L) w
 
 abbrev pub Iterate : Words → Words
 Iterate L w = (n : ℕ) × Power n L w
 
 abbrev pub language : Pat → Words
-language Empty w = Unit_word w
+language Empty w = UnitWord w
 language (Byte b) w = Bytes (λ c. c ≡ b) w
 language Any w = Bytes (λ c. c ≤ 255) w
 language (Set s) w = Bytes (λ c. bit s c ≡ 1) w
-language (Tag t) w = Unit_word w
+language (Tag t) w = UnitWord w
 language (Seq p q) w = Product (language p) (language q) w
 language (Alt p q) w = Sum (language p) (language q) w
 language (Star p) w = Iterate (language p) w
 language (Plus p) w = Product (language p) (Iterate (language p)) w
-language (Opt p) w = Sum (language p) Unit_word w
+language (Opt p) w = Sum (language p) UnitWord w
