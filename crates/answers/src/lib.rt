@@ -1,5 +1,6 @@
 // What a caller gets back: document 01's twenty-one answers. specs/Answers.antt has the same names for the promises.
 #![tactic(auto)]
+
 ghost use Rattle.std.specs.Prelude.{◌≡◌};
 ghost use Rattle.answers.specs.Answers.{answers};
 

@@ -1,6 +1,7 @@
 // The bank of 64 registers, handed in and handed back by value. That a register's number is below 64 is shown by the caller, who
 // has it out of a table that was judged; that a place is no larger than a position holds, by the caller too, who let the line in.
 #![tactic(auto)]
+
 ghost use Rattle.std.specs.Prelude.{◌≡◌, ◌≤◌, ◌<◌, pos, get_or, set, replicate};
 ghost use Rattle.ground.specs.Place.{place_max, absent};
 

@@ -1,5 +1,6 @@
 // A block of commands carried out in place: registers that shift upward as one, and registers that are set to one place.
 #![tactic(auto)]
+
 ghost use Rattle.std.specs.Prelude.{◌≡◌, ℕ, ◌+◌, ◌≤◌};
 ghost use Rattle.card.specs.Run.{Bank, line_max};
 ghost use Rattle.run.specs.Carry.{carry};

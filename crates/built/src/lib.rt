@@ -1,5 +1,6 @@
 // The laws of the builder's table: see proofs/. Nothing here is run.
 #![tactic(auto)]
+
 ghost use Rattle.std.specs.Prelude.{◌≡◌};
 
 // The answer of a situation without an END.

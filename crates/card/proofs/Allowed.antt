@@ -1,17 +1,16 @@
 -- Laws of which kind of item may come where the form pass stands. Assumes nothing.
-use Prim.Native.Nat.{ℕ, zero, suc, ◌+◌, ◌-◌, ◌<◌, ◌≤◌}
+use Prim.Native.Nat.{ℕ, ◌<◌, ◌≤◌}
 use native.Mathlib.Omega.{arith}
-use mathlib.Core.Path.{◌≡◌, refl, sym, ap, ◌∙◌, subst}
+use mathlib.Core.Path.{◌≡◌, refl, sym, ap, ◌∙◌}
 use mathlib.Core.Bool.{Bool, true, false}
 use mathlib.Core.List.{List}
-use lib.ListN.{length, get_or}
-use lib.Dec.{ltb, leb, eqb}
+use lib.ListN.{get_or}
+use lib.Dec.{leb}
 use borrow.Author.Tests.{eq-eqb, ne_eqb, eqb-true, eqb-false, le-leb, leb-true, leb-false, lt-leb}
 use Rattle.ground.specs.Pick.{pick}
 use Rattle.card.specs.declared.form.Head.{Head}
 use Rattle.card.specs.declared.form.Cursor.{Cursor}
-use Rattle.card.specs.declared.form.Went.{Went}
-use Rattle.card.specs.declared.form.Went.TheVariants.{On, Bad}
+use Rattle.card.specs.declared.form.Went.TheVariants.{Bad}
 use Rattle.card.specs.Form.{whole, kind_fault, sit_step, row_step, move_step, set_step, body_step, fault_of, step_form}
 use Rattle.ground.proofs.Picks.{by_test}
 

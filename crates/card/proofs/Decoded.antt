@@ -1,19 +1,15 @@
 -- What `bytes_of` writes of a formed table reads back as that table, so a file says one table at most. Assumes nothing.
-use Prim.Native.Nat.{ℕ, zero, suc, ◌+◌, ◌-◌, ◌<◌, ◌≤◌}
+use Prim.Native.Nat.{ℕ, suc, ◌+◌, ◌-◌, ◌<◌, ◌≤◌}
 use native.Mathlib.Omega.{arith}
-use mathlib.Core.Path.{◌≡◌, refl, sym, ap, ◌∙◌, subst}
-use mathlib.Core.Bool.{Bool, true, false}
-use mathlib.Core.List.{List, [], ◌∷◌, ◌++◌, append_assoc, append-nil}
+use mathlib.Core.Path.{◌≡◌, refl, sym, ap, ◌∙◌}
+use mathlib.Core.List.{List, [], ◌∷◌, ◌++◌, append_assoc}
 use lib.ListN.{length, get_or, take, drop}
 use lib.Seq.{take_at, drop_at}
-use lib.Dec.{ltb, leb, eqb}
 use borrow.Author.Tests.{eq-eqb, ne_eqb, le-leb, lt-leb, le-ltb}
 use Rattle.ground.specs.Lists.{each}
 use Rattle.ground.specs.Pick.{pick}
-use Rattle.card.specs.Table.{Cmd, move, put, Row, Sit, Table, cmd_bytes, row_bytes, sit_bytes, bytes_of, Rising, Upward, FormedSit, FormedSits, Formed}
-use Rattle.card.specs.declared.Order.{Order}
+use Rattle.card.specs.Table.{Cmd, move, put, Row, Sit, Table, cmd_bytes, row_bytes, sit_bytes, bytes_of, Rising, Upward, FormedSits, Formed}
 use Rattle.card.specs.declared.Order.TheVariants.{Move, Put, Stop}
-use Rattle.card.specs.declared.RowItem.{RowItem}
 use Rattle.card.specs.declared.RowItem.TheVariants.{Leads, Ends}
 use Rattle.card.specs.Decode.{cmd_at, cmds_at, after_at, row_at, rows_at, after_rows, sit_at, sits_from, table_at}
 use Rattle.ground.proofs.Lists.{byte_here, first_here, left_here, later_here}

@@ -1,20 +1,18 @@
 -- The form pass takes a file exactly if a formed table is written as it. Assumes nothing.
-use Prim.Native.Nat.{ℕ, zero, suc, ◌+◌, ◌-◌, ◌<◌, ◌≤◌}
+use Prim.Native.Nat.{ℕ, ◌<◌, ◌≤◌}
 use native.Mathlib.Omega.{arith}
 use mathlib.Core.Path.{◌≡◌, refl, sym, ap, ◌∙◌, subst}
 use mathlib.Core.Bool.{Bool, true, false}
 use mathlib.Core.List.{List, [], ◌∷◌, ◌++◌}
 use lib.ListN.{length, get_or, drop}
-use lib.Dec.{ltb, leb, eqb}
-use borrow.Author.Tests.{eq-eqb, eqb-true, ltb-false, le-ltb, lt-leb}
+use borrow.Author.Tests.{eqb-true, ltb-false, le-ltb, lt-leb}
 use Rattle.ground.specs.Lists.{each}
 use Rattle.ground.specs.Pick.{pick}
-use Rattle.card.specs.Table.{Cmd, Row, Sit, Table, cmd_bytes, row_bytes, sit_bytes, bytes_of, FormedSits, Formed}
+use Rattle.card.specs.Table.{Row, Table, cmd_bytes, row_bytes, sit_bytes, bytes_of, FormedSits, Formed}
 use Rattle.card.specs.Decode.{table_at}
 use Rattle.card.specs.declared.form.Head.{Head}
 use Rattle.card.specs.declared.form.HeadItem.{HeadItem}
 use Rattle.card.specs.declared.form.HeadItem.TheVariants.{Counts, Wrong}
-use Rattle.card.specs.declared.form.Verdict.{Verdict}
 use Rattle.card.specs.declared.form.Verdict.TheVariants.{Fine, Fault}
 use Rattle.card.specs.Form.{head_at, begin, form_from, after_head, form_of}
 use Rattle.card.specs.FormOk.{FormOk}

@@ -1,11 +1,11 @@
 -- What an item that the form pass goes past has said, and that such an item is gone past. Assumes nothing.
-use Prim.Native.Nat.{ℕ, zero, suc, ◌+◌, ◌-◌, ◌<◌, ◌≤◌}
+use Prim.Native.Nat.{ℕ, ◌+◌, ◌-◌, ◌<◌, ◌≤◌}
 use native.Mathlib.Omega.{arith}
-use mathlib.Core.Path.{◌≡◌, refl, sym, ap, ◌∙◌, subst}
-use mathlib.Core.Bool.{Bool, true, false}
+use mathlib.Core.Path.{◌≡◌, sym, ap, ◌∙◌, subst}
+use mathlib.Core.Bool.{false}
 use mathlib.Core.List.{List}
 use lib.ListN.{length, get_or}
-use lib.Dec.{ltb, leb, eqb}
+use lib.Dec.{eqb}
 use borrow.Author.Tests.{eq-eqb, eqb-true, eqb-false, leb-false, lt-leb, le-ltb, ltb-false}
 use Rattle.ground.specs.Pick.{pick}
 use Rattle.card.specs.Table.{Field}
@@ -13,7 +13,7 @@ use Rattle.card.specs.declared.form.Head.{Head}
 use Rattle.card.specs.declared.form.Cursor.{Cursor}
 use Rattle.card.specs.declared.form.Went.{Went}
 use Rattle.card.specs.declared.form.Went.TheVariants.{On, Bad}
-use Rattle.card.specs.Form.{kind_fault, sit_step, row_step, move_step, set_step, body_step, fault_of, step_form}
+use Rattle.card.specs.Form.{kind_fault, sit_step, row_step, move_step, set_step, body_step, step_form}
 use Rattle.ground.proofs.Picks.{by_test}
 use Rattle.card.proofs.Fields.{fields_told, fields_made}
 use Rattle.card.proofs.Allowed.{Allowed, kind_told, kind_move, kind_set, kind_row, kind_sit, step_sit, step_row, step_move, step_set}

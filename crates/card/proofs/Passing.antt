@@ -2,18 +2,16 @@
 use Prim.Native.Nat.{ℕ, zero, suc, ◌+◌, ◌-◌, ◌<◌, ◌≤◌}
 use native.Mathlib.Omega.{arith}
 use mathlib.Core.Path.{◌≡◌, refl, sym, ap, ◌∙◌}
-use mathlib.Core.Bool.{Bool, true, false}
+use mathlib.Core.Bool.{Bool}
 use mathlib.Core.List.{List}
 use lib.ListN.{length}
-use lib.Dec.{ltb}
 use borrow.Author.Tests.{lt-ltb, le-ltb}
 use Rattle.ground.specs.Pick.{pick}
 use Rattle.card.specs.declared.form.Head.{Head}
 use Rattle.card.specs.declared.form.Cursor.{Cursor}
 use Rattle.card.specs.declared.form.Went.{Went}
 use Rattle.card.specs.declared.form.Went.TheVariants.{On, Bad}
-use Rattle.card.specs.declared.form.Verdict.{Verdict}
-use Rattle.card.specs.declared.form.Verdict.TheVariants.{Fine, Fault}
+use Rattle.card.specs.declared.form.Verdict.TheVariants.{Fault}
 use Rattle.card.specs.Form.{step_form, begin, end_form, onward, form_from}
 use Rattle.card.proofs.Items.{past_of, past_on}
 

@@ -1,24 +1,22 @@
 -- The form pass takes a file exactly if it is what a formed table is written as: from each cursor on, what is left of a
 -- table that is written there. Assumes nothing.
-use Prim.Native.Nat.{ℕ, zero, suc, ◌+◌, ◌-◌, ◌<◌, ◌≤◌}
+use Prim.Native.Nat.{ℕ, zero, suc, ◌+◌, ◌<◌, ◌≤◌}
 use native.Mathlib.Omega.{arith}
 use native.Mathlib.Numerals.{add-one}
 use mathlib.Core.Path.{◌≡◌, refl, sym, ap, ◌∙◌, subst}
-use mathlib.Core.Logic.{◌⊎◌, inl, inr, ⊎_elim}
+use mathlib.Core.Logic.{⊎_elim}
 use mathlib.Core.Bool.{Bool, true, false}
-use mathlib.Core.List.{List, [], ◌∷◌, ◌++◌, append_assoc, append-nil}
+use mathlib.Core.List.{List, [], ◌∷◌, ◌++◌, append_assoc}
 use lib.ListN.{length, get_or, take, drop, take-append-drop, drop_of_length-le, length-drop, length-append, get_or-append}
 use lib.Seq.{drop-drop, drop_at, get_or-take, get_or-drop, length-take-le}
 use native.Mathlib.Nat.{eq-zero-or-pos}
-use lib.Dec.{ltb, leb, eqb}
 use Rattle.ground.specs.Lists.{each}
 use Rattle.ground.specs.Pick.{pick}
-use Rattle.card.specs.Table.{Cmd, move, put, Row, Sit, Table, cmd_bytes, row_bytes, sit_bytes, bytes_of, Rising, Sets, Upward, Field, FormedSit, FormedSits, Formed}
+use Rattle.card.specs.Table.{Cmd, move, put, Row, Sit, cmd_bytes, row_bytes, sit_bytes, Rising, Sets, Upward, Field, FormedSits}
 use Rattle.card.specs.declared.form.Head.{Head}
 use Rattle.card.specs.declared.form.Cursor.{Cursor}
 use Rattle.card.specs.declared.form.Went.{Went}
 use Rattle.card.specs.declared.form.Went.TheVariants.{On, Bad}
-use Rattle.card.specs.declared.form.Verdict.{Verdict}
 use Rattle.card.specs.declared.form.Verdict.TheVariants.{Fine, Fault}
 use Rattle.card.specs.Form.{step_form, begin, whole, end_form, onward, form_from}
 use Rattle.ground.proofs.Tests.{lt_or_le}

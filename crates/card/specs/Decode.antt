@@ -1,6 +1,6 @@
 -- A table read back from its bytes, item by item at a place. Anything that is no whole legal item ends the list that it stands in,
 -- so the reading is total; a law says that of what `bytes_of` writes of a formed table it gives that table back. Assumes nothing: these are definitions.
-use Rattle.std.specs.Prelude.{Bool, true, false, List, [], ◌∷◌, ℕ, zero, suc, ◌+◌, ◌-◌, length, get_or, take, drop, ltb, leb, eqb}
+use Rattle.std.specs.Prelude.{List, [], ◌∷◌, ℕ, zero, suc, ◌+◌, ◌-◌, length, get_or, take, drop, ltb, leb, eqb}
 use Rattle.ground.specs.Pick.{pick}
 use Rattle.card.specs.Table.{Cmd, move, put, Row, Sit, Table}
 use Rattle.card.specs.declared.Order.{Order}

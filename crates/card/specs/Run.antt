@@ -1,5 +1,5 @@
 -- Document 01, "Table file": a run of a table over a line, and what it is to be stuck. Assumes nothing: these are definitions.
-use Rattle.std.specs.Prelude.{◌≡◌, Bool, true, false, List, [], ◌∷◌, map, ◌⊎◌, ℕ, zero, suc, ◌≤◌, ◌<◌, length, get_or, set, replicate, ℤ, pos, negsuc, leb, eqb}
+use Rattle.std.specs.Prelude.{◌≡◌, List, [], ◌∷◌, map, ◌⊎◌, ℕ, suc, ◌≤◌, length, get_or, set, replicate, ℤ, pos, negsuc, leb, eqb}
 use Rattle.ground.specs.Pick.{pick}
 use Rattle.ground.specs.Lists.{Bytes}
 use Rattle.card.specs.Table.{Cmd, move, put, Row, Sit, Table}

@@ -1,6 +1,6 @@
 -- Document 01, "Table file": what a table says, the bytes that it is written as, and when its form is right.
 -- Assumes nothing: these are definitions.
-use Rattle.std.specs.Prelude.{◌≡◌, List, [], ◌∷◌, ◌++◌, ◌⊎◌, ℕ, zero, suc, ◌≤◌, ◌<◌, length, get_or}
+use Rattle.std.specs.Prelude.{◌≡◌, List, [], ◌∷◌, ◌++◌, ◌⊎◌, ℕ, suc, ◌≤◌, ◌<◌, length, get_or}
 use Rattle.ground.specs.Lists.{each}
 
 -- MOVE (to, from) and SET (to)

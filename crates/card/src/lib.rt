@@ -1,5 +1,6 @@
 // The table file: its items read at a place.
 #![tactic(auto)]
+
 pub mod form;
 
 ghost use Rattle.std.specs.Prelude.{◌≡◌, ◌≤◌, get_or};

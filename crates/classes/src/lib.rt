@@ -1,5 +1,6 @@
 // Class membership of each byte, a bit for each of the twelve classes.
 #![tactic(auto)]
+
 ghost use Rattle.std.specs.Prelude.{◌≡◌};
 ghost use Rattle.classes.specs.Class.{class_word, in_class};
 

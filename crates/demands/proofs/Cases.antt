@@ -21,7 +21,7 @@ use Rattle.built.proofs.Answers.{one_told}
 use Rattle.pattern.specs.Pat.{Pat, automaton}
 use Rattle.pattern.specs.Measured.{tags}
 use Rattle.pattern.specs.Reader.{single, read_in, read}
-use Rattle.demands.specs.Cases.{Case, cases, told_of, outcome}
+use Rattle.demands.specs.Cases.{cases, told_of, outcome}
 use Rattle.demands.proofs.Demand2.{built_table_answers}
 
 -- the cases P

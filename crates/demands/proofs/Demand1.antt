@@ -1,11 +1,10 @@
 -- Demand 1: "Pattern, automaton, table and record may hold any bytes; each call ends and answers by document 01; a refusal alters no output buffer."
 -- That each call ends and meets its promise for every input is what the check of its crate says; here is that a refusal keeps the output, and that each
 -- promise leaves one result. Assumes nothing.
-use mathlib.Core.Path.{◌≡◌, refl, sym, ap, ◌∙◌, subst}
+use mathlib.Core.Path.{◌≡◌, refl, sym, ap, ◌∙◌}
 use mathlib.Core.Bool.{Bool, true, false}
 use mathlib.Core.List.{List}
 use Prim.Native.Nat.{ℕ}
-use native.Mathlib.Omega.{arith}
 use Rattle.ground.specs.Pick.{pick}
 use Rattle.net.specs.Items.{NetRead, net, refused, net_of}
 use Rattle.build.specs.Build.{Done, Builds, makes, of_net, build_of}

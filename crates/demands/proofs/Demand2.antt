@@ -1,13 +1,13 @@
 -- Demand 2: "For a record of at most 32767 bytes a built table matches exactly when some path of the tagged automaton accepts it, and reports
 -- answer and tag places of the first such path, empty loops cut, in leftmost greedy order. Too large a table is refused exactly where document 01
 -- says." Each theorem cites the laws below it. Assumes nothing.
-use mathlib.Core.Path.{◌≡◌, refl, sym, ap, ◌∙◌, subst}
+use mathlib.Core.Path.{◌≡◌, refl, sym, ◌∙◌, subst}
 use mathlib.Core.Logic.{◌↔◌}
-use mathlib.Core.List.{List, [], ◌∷◌}
+use mathlib.Core.List.{List}
 use mathlib.Core.Option.{Option}
-use Prim.Native.Nat.{ℕ, zero, suc, ◌<◌}
+use Prim.Native.Nat.{ℕ, ◌<◌}
 use native.Mathlib.Omega.{arith}
-use lib.ListN.{length, get_or}
+use lib.ListN.{length}
 use Rattle.ground.proofs.Every.{bytes_at}
 use Rattle.net.specs.Rec.{Net}
 use Rattle.ground.specs.Lists.{Bytes}
@@ -16,16 +16,16 @@ use Rattle.paths.specs.Limits.{OverRegisters, OverSituations}
 use Rattle.paths.proofs.Laws.{loops_cut}
 use Rattle.card.specs.Table.{bytes_of}
 use Rattle.card.specs.Run.{Line, Told, tells}
-use Rattle.run.specs.Runs.{Runs, unfit, long, fit}
+use Rattle.run.specs.Runs.{Runs, fit}
 use Rattle.run.proofs.One.{runs_one}
 use Rattle.build.specs.Card.{table_of}
-use Rattle.build.specs.Build.{Done, build_of}
+use Rattle.build.specs.Build.{build_of}
 use Rattle.built.specs.Fits.{Fits}
 use Rattle.built.specs.Tells.{Tells, matched, unmatched, found}
 use Rattle.demands.specs.Outcome.{Outcome}
 use Rattle.built.proofs.States.{fits_exactly}
 use Rattle.built.proofs.Formed.{table_formed}
-use Rattle.built.proofs.Answers.{build_answers, one_told, answers_exactly, build_taken}
+use Rattle.built.proofs.Answers.{build_answers, answers_exactly, build_taken}
 use Rattle.demands.proofs.Outcome as outcome
 use Rattle.pattern.specs.Pat.{Pat, size, automaton}
 use Rattle.pattern.specs.Measured.{tags}

@@ -1,23 +1,20 @@
 -- What `build` promises is what document 01 says: each answer exactly where it is due. Assumes nothing.
-use mathlib.Core.Path.{◌≡◌, refl, sym, ap, ◌∙◌, subst}
+use mathlib.Core.Path.{◌≡◌, refl}
 use mathlib.Core.Bool.{Bool, true, false}
-use mathlib.Core.Logic.{◌⊎◌, inl, inr}
 use mathlib.Core.List.{List}
-use Prim.Native.Nat.{ℕ, ◌≤◌, ◌<◌}
+use Prim.Native.Nat.{ℕ, ◌≤◌}
 use native.Mathlib.Omega.{arith}
 use lib.Dec.{ltb}
 use lib.ListN.{length}
 use borrow.Author.Tests.{ltb-true, ltb-false}
 use Rattle.ground.specs.Pick.{pick}
 use Rattle.net.specs.Rec.{Net}
-use Rattle.net.specs.File.{Legal, file_of}
 use Rattle.ground.specs.Lists.{Bytes}
-use Rattle.net.specs.Items.{NetRead, net, refused, net_of, NetFault, number}
+use Rattle.net.specs.Items.{NetRead, net, refused, net_of}
 use Rattle.net.proofs.Inverse.{written}
-use Rattle.paths.specs.Limits.{OverRegisters, OverSituations}
 use Rattle.card.specs.Table.{bytes_of}
 use Rattle.build.specs.Card.{table_of}
-use Rattle.build.specs.Build.{Done, refuses, gives, makes, of_net, build_of, over_registers, over_situations}
+use Rattle.build.specs.Build.{Done, refuses, makes, of_net, build_of, over_registers, over_situations}
 use Rattle.build.proofs.Verdict.{registers_true, registers_only, situations_true, situations_only}
 use Rattle.built.specs.Fits.{Fits}
 use Rattle.demands.specs.Outcome.{Holds, Outcome, work_small, no_net, registers, situations, out_small, built}

@@ -3,7 +3,7 @@
 use Rattle.std.specs.Prelude.{◌≡◌, List, ℕ, ◌≤◌, ◌<◌, length}
 use Rattle.net.specs.Rec.{Net}
 use Rattle.net.specs.File.{Legal, file_of}
-use Rattle.net.specs.Items.{NetFault, number, net, refused, net_of}
+use Rattle.net.specs.Items.{NetFault, number, refused, net_of}
 use Rattle.paths.specs.Limits.{OverRegisters, OverSituations}
 use Rattle.card.specs.Table.{bytes_of}
 use Rattle.build.specs.Card.{table_of}

@@ -1,4 +1,5 @@
 #![tactic(auto)]
+
 ghost use Rattle.std.specs.Prelude.{◌≡◌, false, ℕ, suc, ◌+◌, ◌*◌, ◌<◌, ◌≤◌, length, get_or, set};
 ghost use mathlib.Core.List.{[], ◌∷◌, foldl};
 ghost use Rattle.paths.specs.Situation.{bite, on_byte};

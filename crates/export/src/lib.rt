@@ -1,5 +1,6 @@
 // The calls under C names, for tests, benchmarks and firmware: numbers and byte slices only.
 #![tactic(auto)]
+
 ghost use Rattle.std.specs.Prelude.{◌≡◌, ◌≤◌, length, get_or};
 ghost use Rattle.ground.specs.Place.{place_of};
 ghost use Rattle.field.specs.Field.{cut_of, code_of, bytes_of};

@@ -1,5 +1,6 @@
 // The part of a line between two places, and the number that goes with it.
 #![tactic(auto)]
+
 ghost use Rattle.std.specs.Prelude.{◌≡◌, length};
 ghost use Rattle.ground.specs.Place.{place_of};
 ghost use Rattle.field.specs.Field.{cut_of, code_of, Handed};

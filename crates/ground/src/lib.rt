@@ -1,5 +1,6 @@
 // Small helpers that every crate shares.
 #![tactic(auto)]
+
 ghost use Rattle.std.specs.Prelude.{◌≡◌, ◌≤◌, pos};
 ghost use Rattle.ground.specs.Place.{place_max, place_of};
 

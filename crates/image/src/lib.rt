@@ -1,5 +1,6 @@
 // A table that is taken, written once as an image that lines ride over: a word for each situation and byte.
 #![tactic(auto)]
+
 mod sorts;
 
 ghost use Rattle.std.specs.Prelude.{◌≡◌, ◌<◌};

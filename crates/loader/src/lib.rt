@@ -1,5 +1,6 @@
 // The loader: is a table's form right, and can a line make it read an empty register?
 #![tactic(auto)]
+
 ghost use Rattle.std.specs.Prelude.{◌≡◌, ◌+◌, ◌≤◌, ◌<◌, ◌^◌, length};
 ghost use Rattle.card.specs.Decode.{table_at};
 ghost use Rattle.card.specs.Judged.{Judged};

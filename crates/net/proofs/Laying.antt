@@ -9,7 +9,7 @@ use lib.Seq.{take-suc-set, drop-set-lt, drop-drop, length-take-le}
 use borrow.Author.Tests.{lt-ltb, le-ltb}
 use Rattle.ground.specs.Pick.{pick}
 use Rattle.net.specs.Rec.{Rec}
-use Rattle.net.specs.Items.{starts, NetFault, net_extra, number, ItemRead, got, stop, item_at, HeadRead, counts, bad, head_of, refused, prepend, after_item, recs_from, after_head, net_of, code_of}
+use Rattle.net.specs.Items.{starts, NetFault, net_extra, number, ItemRead, got, stop, item_at, HeadRead, counts, bad, head_of, prepend, after_item, recs_from, after_head, net_of, code_of}
 use Rattle.net.specs.Calls.{head_shown, item_shown, shown, no_layout, LayoutOf}
 use Rattle.net.specs.declared.Head.{Head}
 use Rattle.net.specs.declared.Head.TheVariants.{Counts, Bad}

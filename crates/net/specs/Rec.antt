@@ -1,6 +1,6 @@
 -- Document 01, "Automaton file": "Every item is one byte of kind, then a body whose length the kind fixes. Record 0 of the automaton is the start."
 -- An automaton is its records, by number. Assumes nothing: these are definitions.
-use Rattle.std.specs.Prelude.{List, [], ◌∷◌, ℕ, ◌^◌, ◌/◌, ◌%◌, get_or}
+use Rattle.std.specs.Prelude.{List, [], ℕ, ◌^◌, ◌/◌, ◌%◌, get_or}
 
 pub data Rec : Type 0 where
   range : (lo hi next : ℕ) → Rec

@@ -1,5 +1,6 @@
 // The automaton file: a reader of its items, the check of a whole file, the places of its records, and byte counts.
 #![tactic(auto)]
+
 ghost use Rattle.std.specs.Prelude.{◌≡◌, ℕ, ◌+◌, ◌*◌, ◌<◌, ◌≤◌, length, get_or, take, drop};
 ghost use Rattle.net.specs.Items.{head_of, body_at, item_at, net_of, code_of};
 ghost use Rattle.net.specs.Calls.{head_shown, shown, head_refusal_of, refusal_of, no_layout, LayoutOf};

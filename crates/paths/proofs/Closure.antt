@@ -4,7 +4,6 @@ use mathlib.Core.Logic.{◌⊎◌, inl, inr}
 use mathlib.Core.List.Memᴰ
 use mathlib.Core.List.{List, [], ◌∷◌, ◌++◌, foldl, Memᴰ}
 use Prim.Native.Nat.{ℕ, zero, suc, ◌<◌}
-use native.Mathlib.Omega.{arith}
 use Rattle.ground.specs.Lists.{each}
 use Rattle.paths.specs.Search.{Thread, ons, add, firsts, paths, visit}
 use Rattle.paths.proofs.Firsts.{Keyed, gather_append, gather_known, gather_keeps, gather_has, gather_in}

@@ -6,7 +6,6 @@ use mathlib.Core.List.{List, [], ◌∷◌, ◌++◌, map, Memᴰ}
 use Prim.Native.Nat.{ℕ, zero, suc, ◌+◌, ◌≤◌, ◌<◌}
 use native.Mathlib.Omega.{arith}
 use lib.ListN.{length, length-append}
-use Rattle.ground.specs.Lists.{each}
 use Rattle.paths.specs.Numbering.{words, upto}
 use Rattle.paths.specs.Limits.{bytes, ByValues, lower, same, Before, shorter, by_values}
 use Rattle.ground.proofs.Members.{each_cases, Ordered, ordered_append, ordered_each}

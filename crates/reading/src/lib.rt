@@ -1,6 +1,7 @@
 // A reading holds its line and eight places, and answers for any two tags. The functions over the struct are thin: each takes it
 // apart and calls the covered function on the line and the places.
 #![tactic(auto)]
+
 ghost use Rattle.std.specs.Prelude.{◌≡◌};
 ghost use Rattle.field.specs.Field.{code_of, Handed};
 ghost use Rattle.reading.specs.Reading.{position_of, cut_by};

@@ -16,7 +16,7 @@ use Rattle.net.specs.Items.{NetRead, net, refused, net_of, NetFault, net_kind, n
 use Rattle.net.proofs.Inverse.{written}
 use Rattle.pattern.specs.Pat.{size}
 use Rattle.pattern.specs.Reader.{Res, ok, form, deep, alts, read}
-use Rattle.pattern.specs.Maker.{Given, given, file, made, judged, maker}
+use Rattle.pattern.specs.Maker.{Given, given, file, judged, maker}
 use Rattle.pattern.specs.declared.Made.{Made}
 use Rattle.card.specs.Table.{bytes_of}
 use Rattle.card.specs.Judged.{Judged}

@@ -1,5 +1,6 @@
 // What the program prints, as bytes in a lent buffer.
 #![tactic(auto)]
+
 ghost use Rattle.std.specs.Prelude.{◌≡◌, [], ◌∷◌, ◌++◌, ◌+◌, ◌<◌, ◌≤◌, pos, length, get_or, drop};
 ghost use Rattle.report.specs.Text.{digits, decimal, shown, Wrote};
 ghost use Rattle.report.specs.Lines.{refused_line, refused_at, table_line, answer_line, spaced};

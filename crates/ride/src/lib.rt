@@ -1,5 +1,6 @@
 // A load-once run: lines ride over the image that `image::mount` writes of a table.
 #![tactic(auto)]
+
 mod gliding;
 
 ghost use Rattle.std.specs.Prelude.{◌≡◌, ◌≤◌, ◌<◌, ◌*◌, length, get_or};

@@ -1,5 +1,6 @@
 // A run of a table over a line.
 #![tactic(auto)]
+
 pub mod lists;
 
 ghost use Rattle.std.specs.Prelude.{◌≡◌, map, ◌≤◌, ◌<◌, ◌+◌, length, get_or, take, drop};

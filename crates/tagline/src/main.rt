@@ -1,6 +1,7 @@
 // The program: a pattern line and records from standard input; what the pattern's table tells of each to standard output.
 // All that matters is `report::answer`. One byte more than the longest input is read, so that a longer one is seen.
 #![tactic(auto)]
+
 ghost use Rattle.std.specs.Prelude.{◌≤◌, length, IfOk};
 
 use std::io;

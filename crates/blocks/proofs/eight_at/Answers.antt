@@ -37,7 +37,7 @@ pub bounds-bank-f : goal.bounds-bank-f
 bounds-bank-f c = omega (arith, c.requires)
 
 pub loop-t-preserved : goal.loop-t-preserved
-loop-t-preserved c =     let fit : SFits w16 (get_or c.args.bank.now (c.args.f + c.loop-t.t) (pos 0)) = search rules in
+loop-t-preserved c = let fit : SFits w16 (get_or c.args.bank.now (c.args.f + c.loop-t.t) (pos 0)) = search rules in
     rw (to_z-of_z w16 (get_or c.args.bank.now (c.args.f + c.loop-t.t) (pos 0)) fit) (one_more c.args.bank.now c.args.f c.loop-t.v c.loop-t.t c.loop-t-test.true c.loop-t.invariant)
 
 pub returns : goal.returns

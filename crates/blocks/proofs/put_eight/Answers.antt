@@ -23,12 +23,12 @@ pub bounds-bank-a : goal.bounds-bank-a
 bounds-bank-a c = omega (arith, c.requires)
 
 pub loop-t-preserved : goal.loop-t-preserved
-loop-t-preserved c =     let fit : SFits w16 (get_or c.args.v c.loop-t.t (pos 0)) = search rules in (
-      omega arith,
-      λ old f p h. rw (to_z-of_z w16 (get_or c.args.v c.loop-t.t (pos 0)) fit)
-          (move_next p old c.args.a f 8 c.loop-t.t c.loop-t.bank c.loop-t-test.true (h c.loop-t.t c.loop-t-test.true)
-          ∙ c.loop-t.invariant.1 old f p h),
-    )
+loop-t-preserved c = let fit : SFits w16 (get_or c.args.v c.loop-t.t (pos 0)) = search rules in (
+  omega arith,
+  λ old f p h. rw (to_z-of_z w16 (get_or c.args.v c.loop-t.t (pos 0)) fit)
+      (move_next p old c.args.a f 8 c.loop-t.t c.loop-t.bank c.loop-t-test.true (h c.loop-t.t c.loop-t-test.true)
+      ∙ c.loop-t.invariant.1 old f p h),
+)
 
 pub returns : goal.returns
 returns c = λ old f p h. move_last p old _ f 8 _ _ c.loop-t-test.false ∙ c.loop-t.invariant.1 old f p h

@@ -16,11 +16,11 @@ pub slice_bounds-make-end : goal.slice_bounds-make-end
 slice_bounds-make-end c = laid_room _ _ c.places-p.ensures c.if-p-ne0.false
 
 pub make-requires : goal.make-requires
-make-requires c = 
+make-requires c =
     let z : c.places-p.result.count - 0 ≡ c.places-p.result.count = omega arith in
     record { formed = laid_ready _ _ c.places-p.ensures c.if-p-ne0.false _ z; in_bounds = omega (arith, c.if-work-lt65536.false) }
 
 pub returns : goal.returns
-returns c = 
+returns c =
     let z : c.places-p.result.count - 0 ≡ c.places-p.result.count = omega arith in
     record { size = search rules; attempts = taken_net _ _ _ c.if-work-lt65536.false _ _ (laid_net _ _ c.places-p.ensures c.if-p-ne0.false _ z) _ _ c.make.ensures.makes }

@@ -1,7 +1,6 @@
 -- `build::build` meets its contract. Assumes nothing.
 use mathlib.Core.Path.{ap, ◌∙◌}
 use lib.ListN.{replicate}
-use borrow.Author.Rules.{rules}
 use Rattle.build.proofs.build.Goals as goal
 
 pub returns : goal.returns

@@ -1,7 +1,6 @@
 -- `build::byte_deed` meets its contract. Assumes nothing.
 use mathlib.Core.Path.{refl, sym}
 use native.Mathlib.Omega.{arith}
-use borrow.Author.Rules.{rules}
 use Rattle.build.proofs.Deeds.{not_over, does}
 use Rattle.build.proofs.byte_deed.Goals as goal
 

@@ -1,8 +1,7 @@
 -- `build::clear` meets its contract. Assumes nothing.
-use mathlib.Core.Path.{◌≡◌, refl}
-use Prim.Native.Nat.{◌≤◌, ◌-◌}
+use mathlib.Core.Path.{refl}
 use native.Mathlib.Omega.{arith}
-use lib.ListN.{length, take, replicate, length-set}
+use lib.ListN.{length-set}
 use Rattle.build.proofs.Verdict.{cleared_more, cleared_all}
 use Rattle.build.proofs.clear.Goals as goal
 

@@ -1,10 +1,9 @@
 -- `build::clear` meets its contract. Assumes nothing.
-use mathlib.Core.Path.{◌≡◌, refl}
+use mathlib.Core.Path.{◌≡◌}
 use Prim.Native.Nat.{◌≤◌, ◌-◌}
-use native.Mathlib.Omega.{arith}
-use lib.ListN.{length, take, replicate, length-set}
-use Rattle.build.proofs.Verdict.{cleared_more, cleared_all}
+use lib.ListN.{length, take, replicate}
 use Rattle.build.proofs.clear.Given as goal
+
 abbrev pub invariant-loop-i : goal.invariant-loop-i
 invariant-loop-i l = (l.i ≤ length l.work) × ((length l.work ≡ length l.initial.work) × (take l.i l.work ≡ replicate l.i 0))
 

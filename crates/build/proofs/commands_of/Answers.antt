@@ -1,13 +1,8 @@
 -- `build::commands_of` meets its contract. Assumes nothing.
-use mathlib.Core.Path.{◌≡◌, refl, ◌∙◌}
-use mathlib.Core.Logic.{⊎_elim}
-use mathlib.Core.List.{◌++◌, map}
-use Prim.Native.Nat.{◌≤◌, ◌<◌, ◌+◌, ◌-◌}
+use mathlib.Core.Path.{refl}
+use Prim.Native.Nat.{◌<◌}
 use native.Mathlib.Omega.{arith}
-use lib.ListN.{length, drop, length-set}
-use Rattle.explore.specs.Keys.{keys_at}
-use Rattle.build.specs.Card.{commands}
-use Rattle.build.specs.Writing.{orders_of}
+use lib.ListN.{length, length-set}
 use Rattle.build.proofs.Commands.{commands_start, commands_set, commands_move, commands_skip, commands_done}
 use Rattle.build.proofs.commands_of.Goals as goal
 use Rattle.build.proofs.commands_of.Goals.{then-from-fresh, else-from-fresh+then-from-to, else-from-fresh+else-from-to}
@@ -53,9 +48,9 @@ loop-k-preserved c =
     let in_it : c.loop-k.m < length c.loop-k.list = omega (arith, c.requires.0, c.loop-k.invariant.1.0, c.loop-k.invariant.1.1.0) in (
       omega arith,
       elim c.if-from-fresh.branch [
-        then-from-fresh w ↦ rw (w.list-is, w.m-is) (omega (arith, c.loop-k.invariant.1.0), (simp length-set c.loop-k.invariant.1.1.0, commands_set _ _ _ _ _ c.loop-k.k (omega arith) in_it c.loop-k.invariant.1.1.1 w.if-from-fresh.true))
-      | else-from-fresh+then-from-to w ↦ rw (w.list-is, w.m-is) (omega (arith, c.loop-k.invariant.1.0), (simp length-set c.loop-k.invariant.1.1.0, commands_move _ _ _ _ _ c.loop-k.k (omega arith) in_it c.loop-k.invariant.1.1.1 w.if-from-fresh.false w.if-from-to.true))
-      | else-from-fresh+else-from-to w ↦ rw (w.list-is, w.m-is) (omega (arith, c.loop-k.invariant.1.0), (c.loop-k.invariant.1.1.0, commands_skip _ _ _ _ _ c.loop-k.k (omega arith) in_it c.loop-k.invariant.1.1.1 w.if-from-fresh.false w.if-from-to.false))
+        | then-from-fresh w ↦ rw (w.list-is, w.m-is) (omega (arith, c.loop-k.invariant.1.0), (simp length-set c.loop-k.invariant.1.1.0, commands_set _ _ _ _ _ c.loop-k.k (omega arith) in_it c.loop-k.invariant.1.1.1 w.if-from-fresh.true))
+        | else-from-fresh+then-from-to w ↦ rw (w.list-is, w.m-is) (omega (arith, c.loop-k.invariant.1.0), (simp length-set c.loop-k.invariant.1.1.0, commands_move _ _ _ _ _ c.loop-k.k (omega arith) in_it c.loop-k.invariant.1.1.1 w.if-from-fresh.false w.if-from-to.true))
+        | else-from-fresh+else-from-to w ↦ rw (w.list-is, w.m-is) (omega (arith, c.loop-k.invariant.1.0), (c.loop-k.invariant.1.1.0, commands_skip _ _ _ _ _ c.loop-k.k (omega arith) in_it c.loop-k.invariant.1.1.1 w.if-from-fresh.false w.if-from-to.false))
       ],
     )
 

@@ -1,9 +1,7 @@
 -- `build::emit` meets its contract. Assumes nothing.
 use mathlib.Core.Path.{refl}
-use mathlib.Core.Logic.{⊎_elim}
 use lib.ListN.{length-set}
 use Rattle.build.proofs.Writing.{wrote_one, wrote_past}
-use borrow.Author.Rules.{rules}
 use Rattle.build.proofs.emit.Goals as goal
 use Rattle.build.proofs.emit.Goals.{then-at-out, else-at-out}
 

@@ -1,15 +1,12 @@
 -- `build::emit_orders` meets its contract. Assumes nothing.
-use mathlib.Core.Path.{ap}
 use Prim.Native.Nat.{◌≤◌, ◌+◌, ◌*◌, ◌-◌}
-use native.Mathlib.Omega.{arith}
 use lib.ListN.{drop}
-use Rattle.ground.proofs.Lists.{unmapped}
 use Rattle.ground.specs.Lists.{each}
 use Rattle.card.specs.Table.{cmd_bytes}
 use Rattle.build.specs.Writing.{orders_of}
-use Rattle.build.proofs.Commands.{order_here, orders_done}
-use Rattle.build.proofs.Writing.{Left, left_all, left_on, left_none, left_size}
+use Rattle.build.proofs.Writing.{Left}
 use Rattle.build.proofs.emit_orders.Given as goal
+
 abbrev pub invariant-loop-i : goal.invariant-loop-i
 invariant-loop-i l = (l.i ≤ l.n) × ((l.p ≤ l.at + 3 * l.i) × Left l.initial.out l.at (each cmd_bytes (orders_of l.c)) l.out l.p (each cmd_bytes (drop l.i (orders_of l.c))))
 

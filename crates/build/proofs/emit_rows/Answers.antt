@@ -1,14 +1,9 @@
 -- `build::emit_rows` meets its contract. Assumes nothing.
 use mathlib.Core.Path.{◌∙◌}
-use mathlib.Core.Logic.{⊎_elim}
-use Prim.Native.Nat.{◌≤◌, ◌+◌, ◌*◌, ◌-◌}
 use native.Mathlib.Omega.{arith}
-use Rattle.net.specs.Items.{net_at}
-use Rattle.explore.specs.Slots.{slot, slots}
 use Rattle.explore.proofs.Classes.{next_alike, origins_alike}
-use Rattle.build.specs.Writing.{Does, rows_bytes}
-use Rattle.build.proofs.Writing.{Left, left_size, wrote_size}
-use Rattle.build.proofs.Joining.{rest_rows, rows_start, rows_step, rows_end, skipped_byte}
+use Rattle.build.proofs.Writing.{left_size, wrote_size}
+use Rattle.build.proofs.Joining.{rows_start, rows_step, rows_end, skipped_byte}
 use Rattle.build.proofs.emit_rows.Goals as goal
 use Rattle.build.proofs.emit_rows.Goals.{then-news-b-ne0, else-news-b-ne0}
 
@@ -25,19 +20,18 @@ pub row_step-q-requires : goal.row_step-q-requires
 row_step-q-requires c = record { formed = c.requires.formed.0; given = c.requires.given; b_nonzero = (omega (arith, c.loop-b.invariant.0), omega (arith, c.requires.at_bound, c.loop-b.invariant.1.1.0)); does = c.loop-b.invariant.1.1.1.0 }
 
 pub loop-b-preserved : goal.loop-b-preserved
-loop-b-preserved c =
-    (
-      omega arith,
-      (
-        omega arith,
-        elim c.if-news-b-ne0.branch [
-          then-news-b-ne0 w ↦ rw (w.out-is, w.q-is) (rows_step _ _ _ _ _ _ _ _ _ _ (omega arith) c.loop-b.invariant.1.1.0 c.loop-b.invariant.1.1.1.1 w.row_step-q.ensures)
-        | else-news-b-ne0 w ↦
-            let alike = c.requires.formed.1.old c.loop-b.b (omega arith) w.if-news-b-ne0.false in
-            rw (w.out-is, w.q-is) (rows_step _ _ _ _ _ _ _ _ _ _ (omega arith) c.loop-b.invariant.1.1.0 c.loop-b.invariant.1.1.1.1 (skipped_byte _ _ _ _ _ _ (omega (arith, c.loop-b.invariant.0)) c.loop-b.invariant.1.1.1.0 (next_alike c.requires.formed.0 _ alike _ c.requires.given.holds.below) (origins_alike c.requires.formed.0 _ alike _ c.requires.given.holds.below)))
-        ],
-      ),
-    )
+loop-b-preserved c = (
+  omega arith,
+  (
+    omega arith,
+    elim c.if-news-b-ne0.branch [
+      | then-news-b-ne0 w ↦ rw (w.out-is, w.q-is) (rows_step _ _ _ _ _ _ _ _ _ _ (omega arith) c.loop-b.invariant.1.1.0 c.loop-b.invariant.1.1.1.1 w.row_step-q.ensures)
+      | else-news-b-ne0 w ↦
+          let alike = c.requires.formed.1.old c.loop-b.b (omega arith) w.if-news-b-ne0.false in
+          rw (w.out-is, w.q-is) (rows_step _ _ _ _ _ _ _ _ _ _ (omega arith) c.loop-b.invariant.1.1.0 c.loop-b.invariant.1.1.1.1 (skipped_byte _ _ _ _ _ _ (omega (arith, c.loop-b.invariant.0)) c.loop-b.invariant.1.1.1.0 (next_alike c.requires.formed.0 _ alike _ c.requires.given.holds.below) (origins_alike c.requires.formed.0 _ alike _ c.requires.given.holds.below)))
+    ],
+  ),
+)
 
 pub emit_row-requires : goal.emit_row-requires
 emit_row-requires c = (omega (arith, c.requires.at_bound, c.loop-b.invariant.1.0, c.loop-b.invariant.1.1.0), c.loop-b.invariant.1.1.1.0.few)

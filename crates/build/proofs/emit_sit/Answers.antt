@@ -1,7 +1,6 @@
 -- `build::emit_sit` meets its contract. Assumes nothing.
 use mathlib.Core.Path.{sym}
 use native.Mathlib.Omega.{arith}
-use borrow.Author.Rules.{rules}
 use Rattle.explore.proofs.Exploration.{loaded, holds_fit}
 use Rattle.build.proofs.Writing.{wrote_then, wrote_as}
 use Rattle.build.proofs.Tables.{given, sit_is}
@@ -23,5 +22,5 @@ pub emit_rows-requires : goal.emit_rows-requires
 emit_rows-requires c = record { formed = c.requires.formed; given = given _ _ _ _ _ c.requires.all.0 c.requires.all.1 _ c.load-s.ensures; at_bound = omega (arith, c.requires.at_bound, c.emit-p.ensures.end, c.emit-q.ensures.end, c.emit_fields-r.ensures.1) }
 
 pub returns : goal.returns
-returns c =     let w = wrote_then (wrote_then (wrote_then c.emit-p.ensures c.emit-q.ensures) c.emit_fields-r.ensures.0) c.emit_rows.ensures.0 in
+returns c = let w = wrote_then (wrote_then (wrote_then c.emit-p.ensures c.emit-q.ensures) c.emit_fields-r.ensures.0) c.emit_rows.ensures.0 in
     (wrote_as w (sit_is _ _ _ _ _ (loaded _ _ _ _ (c.requires.all.0.kept.holds _ c.requires.all.1) c.load-s.ensures).0 c.ending_of-e.ensures), omega (arith, c.emit-p.ensures.end, c.emit-q.ensures.end, c.emit_fields-r.ensures.1, c.emit_rows.ensures.1))

@@ -1,11 +1,7 @@
 -- `build::emit_sits` meets its contract. Assumes nothing.
-use Prim.Native.Nat.{◌≤◌, ◌+◌, ◌*◌, ◌-◌}
 use native.Mathlib.Omega.{arith}
-use Rattle.net.specs.Items.{net_at}
-use Rattle.explore.specs.Slots.{slots}
-use Rattle.build.specs.Writing.{sits_bytes}
-use Rattle.build.proofs.Writing.{Left, left_size}
-use Rattle.build.proofs.Tables.{rest_sits, sits_start, sits_on, sits_done}
+use Rattle.build.proofs.Writing.{left_size}
+use Rattle.build.proofs.Tables.{sits_start, sits_on, sits_done}
 use Rattle.build.proofs.emit_sits.Goals as goal
 
 pub loop-i-init : goal.loop-i-init

@@ -1,12 +1,7 @@
 -- `build::emit_start` meets its contract. Assumes nothing.
-use mathlib.Core.List.{map}
-use Prim.Native.Nat.{◌≤◌, ◌+◌, ◌*◌, ◌-◌}
 use native.Mathlib.Omega.{arith}
-use Rattle.ground.specs.Lists.{each}
-use Rattle.card.specs.Table.{put, cmd_bytes}
-use Rattle.explore.specs.Lists.{span}
-use Rattle.build.proofs.Writing.{Left, left_size, wrote_then}
-use Rattle.build.proofs.Tables.{rest_sets, sets_start, sets_on, sets_done}
+use Rattle.build.proofs.Writing.{left_size, wrote_then}
+use Rattle.build.proofs.Tables.{sets_start, sets_on, sets_done}
 use Rattle.build.proofs.emit_start.Goals as goal
 
 pub loop-k-init : goal.loop-k-init

@@ -1,13 +1,13 @@
 -- `build::emit_start` meets its contract. Assumes nothing.
 use mathlib.Core.List.{map}
 use Prim.Native.Nat.{◌≤◌, ◌+◌, ◌*◌, ◌-◌}
-use native.Mathlib.Omega.{arith}
 use Rattle.ground.specs.Lists.{each}
 use Rattle.card.specs.Table.{put, cmd_bytes}
 use Rattle.explore.specs.Lists.{span}
-use Rattle.build.proofs.Writing.{Left, left_size, wrote_then}
-use Rattle.build.proofs.Tables.{rest_sets, sets_start, sets_on, sets_done}
+use Rattle.build.proofs.Writing.{Left}
+use Rattle.build.proofs.Tables.{rest_sets}
 use Rattle.build.proofs.emit_start.Given as goal
+
 abbrev pub invariant-loop-k : goal.invariant-loop-k
 invariant-loop-k l = (l.k ≤ l.n) × ((l.p ≤ l.at + 2 * l.k) × Left l.initial.out l.at (each cmd_bytes (map put (span 0 l.n))) l.out l.p (rest_sets l.k l.n))
 

@@ -1,12 +1,6 @@
 -- `build::ending_of` meets its contract. Assumes nothing.
-use mathlib.Core.Path.{◌≡◌, refl, sym, ◌∙◌}
-use Prim.Native.Nat.{◌≤◌, ◌-◌}
+use mathlib.Core.Path.{refl, sym, ◌∙◌}
 use native.Mathlib.Omega.{arith}
-use borrow.Author.Rules.{rules}
-use lib.ListN.{drop}
-use Rattle.paths.specs.Situation.{first_end}
-use Rattle.net.specs.Items.{net_at}
-use Rattle.explore.specs.Slots.{slot}
 use Rattle.explore.proofs.Biting.{below_at}
 use Rattle.build.proofs.Tables.{no_end, an_end, none_ends}
 use Rattle.build.proofs.ending_of.Goals as goal

@@ -1,15 +1,12 @@
 -- `build::ending_of` meets its contract. Assumes nothing.
-use mathlib.Core.Path.{◌≡◌, refl, sym, ◌∙◌}
+use mathlib.Core.Path.{◌≡◌}
 use Prim.Native.Nat.{◌≤◌, ◌-◌}
-use native.Mathlib.Omega.{arith}
-use borrow.Author.Rules.{rules}
 use lib.ListN.{drop}
 use Rattle.paths.specs.Situation.{first_end}
 use Rattle.net.specs.Items.{net_at}
 use Rattle.explore.specs.Slots.{slot}
-use Rattle.explore.proofs.Biting.{below_at}
-use Rattle.build.proofs.Tables.{no_end, an_end, none_ends}
 use Rattle.build.proofs.ending_of.Given as goal
+
 abbrev pub invariant-loop-i : goal.invariant-loop-i
 invariant-loop-i l = (l.i ≤ l.n) × (first_end (net_at l.file l.offs) (slot l.s 0) ≡ first_end (net_at l.file l.offs) (drop l.i (slot l.s 0)))
 

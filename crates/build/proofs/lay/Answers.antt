@@ -21,7 +21,7 @@ pub emit_table-requires : goal.emit_table-requires
 emit_table-requires c = record { formed = (c.requires.formed.0, c.requires.formed.1.1); all = all_of _ _ _ _ _ c.explore-t.ensures 0 [] c.if-t-ne0.false; count_nonzero = (some_of _ _ _ _ _ c.explore-t.ensures 0 [] c.if-t-ne0.false, start_of _ _ _ _ _ c.explore-t.ensures 0 [] c.if-t-ne0.false) }
 
 pub most_of-m-requires : goal.most_of-m-requires
-most_of-m-requires c = 
+most_of-m-requires c =
     let k = (c.explore-t.ensures.fine c.if-t-ne0.false).0 in
     record { count_in_bounds = omega (arith, k.room, k.most); needs = λ j b. (k.holds j b).count }
 

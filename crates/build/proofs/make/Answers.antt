@@ -1,5 +1,4 @@
 -- `build::make` meets its contract. Assumes nothing.
-use borrow.Author.Rules.{rules}
 use Rattle.build.proofs.make.Goals as goal
 
 pub news-news-requires : goal.news-news-requires

@@ -1,10 +1,6 @@
 -- `build::most_of` meets its contract. Assumes nothing.
-use mathlib.Core.Path.{◌≡◌, ◌∙◌}
-use mathlib.Core.Logic.{⊎_elim}
-use Prim.Native.Nat.{◌≤◌, ◌-◌, max}
+use mathlib.Core.Path.{◌∙◌}
 use native.Mathlib.Omega.{arith}
-use Rattle.explore.specs.Slots.{slots}
-use Rattle.build.specs.Card.{most}
 use Rattle.build.proofs.Tables.{most_start, most_on, most_end, larger, smaller}
 use Rattle.build.proofs.most_of.Goals as goal
 use Rattle.build.proofs.most_of.Goals.{then-m-k, else-m-k}

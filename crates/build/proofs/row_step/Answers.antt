@@ -6,7 +6,7 @@ use Rattle.build.proofs.Joining.{joins, parts}
 use Rattle.build.proofs.row_step.Goals as goal
 
 pub byte_deed-e-requires : goal.byte_deed-e-requires
-byte_deed-e-requires c = 
+byte_deed-e-requires c =
     let h : c.args.b < 256 = search rules in
     record { formed = c.requires.formed; kept = c.requires.given.kept; holds = (c.requires.given.holds, c.requires.given.size); closed = c.requires.given.leads _ h }
 

@@ -1,7 +1,6 @@
 -- `build::same_deed` meets its contract. Assumes nothing.
 use mathlib.Core.Path.{◌∙◌}
 use Rattle.build.proofs.Commands.{deeds_apart, deeds_by}
-use borrow.Author.Rules.{rules}
 use Rattle.build.proofs.same_deed.Goals as goal
 
 pub returns-then-a-b : goal.returns-then-a-b

@@ -1,19 +1,12 @@
 -- `build::same_orders` meets its contract. Assumes nothing.
-use borrow.Author.Tests.{not-true, not-false}
-use mathlib.Core.Path.{◌≡◌, refl, sym, ◌∙◌}
-use Prim.Native.Nat.{◌≤◌, ◌-◌}
+use mathlib.Core.Path.{refl, sym, ◌∙◌}
 use native.Mathlib.Omega.{arith}
-use borrow.Author.Rules.{rules}
-use lib.ListN.{drop}
-use Rattle.ground.proofs.Lists.{unmapped}
-use Rattle.paths.specs.Equal.{same_list}
-use Rattle.build.specs.Card.{same_cmd}
 use Rattle.build.specs.Writing.{orders_of}
 use Rattle.build.proofs.Commands.{orders_length, same_short, same_step, same_stop, same_end}
 use Rattle.build.proofs.same_orders.Goals as goal
 
 pub returns-then-n-m : goal.returns-then-n-m
-returns-then-n-m c =     let len = c.well_formed.0.1.1.1.0.1.0.1 in
+returns-then-n-m c = let len = c.well_formed.0.1.1.1.0.1.0.1 in
     let len2 = c.well_formed.1.0.1.1.1.0.1.0.1 in
     same_short (orders_of c.args.a) (orders_of c.args.b) (λ e. c.if-n-m.true (sym (orders_length c.args.a (omega (arith, c.requires.0))) ∙ e ∙ orders_length c.args.b (omega (arith, c.requires.1))))
 
@@ -33,19 +26,19 @@ pub bounds-b-i : goal.bounds-b-i
 bounds-b-i c = omega (arith, c.requires.1, c.loop-i.invariant.1.0)
 
 pub returns-then-not-same_order : goal.returns-then-not-same_order
-returns-then-not-same_order c =     let len = c.well_formed.0.1.1.1.0.1.0.1 in
+returns-then-not-same_order c = let len = c.well_formed.0.1.1.1.0.1.0.1 in
     let len2 = c.well_formed.1.0.1.1.1.0.1.0.1 in
-    same_stop c.args.a c.args.b (omega (arith, c.requires.0)) (omega (arith, c.requires.1)) c.loop-i.i (omega arith) (omega (arith, c.loop-i.invariant.1.0)) c.loop-i.invariant.1.1 (sym c.same_order.ensures ∙ not-true _ c.if-not-same_order.true-raw)
+    same_stop c.args.a c.args.b (omega (arith, c.requires.0)) (omega (arith, c.requires.1)) c.loop-i.i (omega arith) (omega (arith, c.loop-i.invariant.1.0)) c.loop-i.invariant.1.1 (sym c.same_order.ensures ∙ c.if-not-same_order.true)
 
 pub overflow_add-i : goal.overflow_add-i
 overflow_add-i c = omega (arith, c.requires.0)
 
 pub loop-i-preserved : goal.loop-i-preserved
-loop-i-preserved c =     let len = c.well_formed.0.1.1.1.0.1.0.1 in
+loop-i-preserved c = let len = c.well_formed.0.1.1.1.0.1.0.1 in
     let len2 = c.well_formed.1.0.1.1.1.0.1.0.1 in
-    (omega arith, (c.loop-i.invariant.1.0, same_step c.args.a c.args.b (omega (arith, c.requires.0)) (omega (arith, c.requires.1)) c.loop-i.i (omega arith) (omega (arith, c.loop-i.invariant.1.0)) c.loop-i.invariant.1.1 (sym c.same_order.ensures ∙ not-false _ c.if-not-same_order.false-raw)))
+    (omega arith, (c.loop-i.invariant.1.0, same_step c.args.a c.args.b (omega (arith, c.requires.0)) (omega (arith, c.requires.1)) c.loop-i.i (omega arith) (omega (arith, c.loop-i.invariant.1.0)) c.loop-i.invariant.1.1 (sym c.same_order.ensures ∙ c.if-not-same_order.false)))
 
 pub returns : goal.returns
-returns c =     let len = c.well_formed.0.1.1.1.0.1.0.1 in
+returns c = let len = c.well_formed.0.1.1.1.0.1.0.1 in
     let len2 = c.well_formed.1.0.1.1.1.0.1.0.1 in
     same_end c.args.a c.args.b (omega (arith, c.requires.0)) (omega (arith, c.requires.1)) c.loop-i.i (omega arith) (omega (arith, c.loop-i.invariant.1.0)) c.loop-i.invariant.1.1

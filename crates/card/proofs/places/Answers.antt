@@ -1,10 +1,7 @@
 -- `card::places` meets its contract: the invariant is `Noting`. Assumes nothing.
-use Prim.Native.Nat.{◌-◌, ◌≤◌}
 use native.Mathlib.Omega.{arith}
-use borrow.Author.Rules.{rules}
-use lib.ListN.{length}
-use mathlib.Core.Path.{◌≡◌, refl}
-use Rattle.card.proofs.Situations.{Noting, noting_begins, noting_on, noting_ends}
+use mathlib.Core.Path.{refl}
+use Rattle.card.proofs.Situations.{noting_begins, noting_on, noting_ends}
 use Rattle.card.proofs.places.Goals as goal
 
 pub loop-k-init : goal.loop-k-init

@@ -1,11 +1,10 @@
 -- `card::places` meets its contract: the invariant is `Noting`. Assumes nothing.
 use Prim.Native.Nat.{◌-◌, ◌≤◌}
-use native.Mathlib.Omega.{arith}
-use borrow.Author.Rules.{rules}
 use lib.ListN.{length}
-use mathlib.Core.Path.{◌≡◌, refl}
-use Rattle.card.proofs.Situations.{Noting, noting_begins, noting_on, noting_ends}
+use mathlib.Core.Path.{◌≡◌}
+use Rattle.card.proofs.Situations.{Noting}
 use Rattle.card.proofs.places.Given as goal
+
 abbrev pub invariant-loop-k : goal.invariant-loop-k
 invariant-loop-k l = (Noting l.s l.initial.at l.count l.at l.p l.k) × (l.count ≤ 255) × (l.room ≡ length l.initial.at)
 

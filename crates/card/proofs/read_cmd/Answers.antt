@@ -4,7 +4,6 @@ use Rattle.card.specs.Decode.{cmd_at}
 use Prim.Native.Nat.{◌+◌}
 use native.Mathlib.Omega.{arith}
 use borrow.Author.Tests.{eq-eqb, le-leb, le-ltb, lt-leb, lt-ltb, ne_eqb}
-use borrow.Author.Rules.{rules}
 use Rattle.card.proofs.read_cmd.Goals as goal
 
 pub returns-then-s-at : goal.returns-then-s-at

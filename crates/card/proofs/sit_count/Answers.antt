@@ -2,7 +2,6 @@
 use mathlib.Core.Path.{sym}
 use native.Mathlib.Omega.{arith}
 use lib.ListN.{get_or-eq_default}
-use borrow.Author.Rules.{rules}
 use Rattle.card.proofs.sit_count.Goals as goal
 
 pub returns-then-s-le4 : goal.returns-then-s-le4

@@ -1,13 +1,10 @@
 -- `card::skip_rows` meets its contract: what follows the rows passed is what followed the first. Assumes nothing.
 use Prim.Native.Nat.{◌-◌, ◌≤◌}
-use mathlib.Core.Path.{◌≡◌, refl, sym, ◌∙◌}
-use native.Mathlib.Omega.{arith}
-use borrow.Author.Rules.{rules}
+use mathlib.Core.Path.{◌≡◌}
 use lib.ListN.{length}
 use Rattle.card.specs.Decode.{after_rows}
-use Rattle.card.proofs.Rows.{row_whole}
-use Rattle.card.proofs.Situations.{after_rows_step}
 use Rattle.card.proofs.skip_rows.Given as goal
+
 abbrev pub invariant-loop-i : goal.invariant-loop-i
 invariant-loop-i l = (after_rows l.s l.i ≡ after_rows l.s l.at) × (l.at ≤ l.i)
 

@@ -1,6 +1,5 @@
 -- `class_word` meets its contract: the 256 words, written out, are the rule's, which antt sees by computing them.
 -- Assumes nothing.
-use borrow.Author.Rules.{rules}
 use Rattle.ground.proofs.Tested.{table_at}
 use Rattle.classes.specs.Class.{class_word}
 use Rattle.classes.proofs.class_word.Goals as goal

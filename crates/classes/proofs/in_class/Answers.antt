@@ -2,12 +2,11 @@
 use mathlib.Core.Path.{sym, ap, ◌∙◌}
 use Prim.Native.Nat.{ℕ, ◌/◌, ◌%◌, ◌^◌}
 use lib.Dec.{eqb}
-use borrow.Author.Rules.{rules}
 use Rattle.classes.proofs.Words.{class_test, no_class}
 use Rattle.classes.proofs.in_class.Goals as goal
 
 pub returns-then-k-lt12 : goal.returns-then-k-lt12
-returns-then-k-lt12 c =     ap (λ (w : ℕ). eqb (w / 2 ^ c.args.k % 2) 1) c.class_word-word.ensures ∙ class_test c.args.k c.args.b
+returns-then-k-lt12 c = ap (λ (w : ℕ). eqb (w / 2 ^ c.args.k % 2) 1) c.class_word-word.ensures ∙ class_test c.args.k c.args.b
 
 pub returns : goal.returns
 returns c = sym (no_class c.args.k c.args.b c.if-k-lt12.false)

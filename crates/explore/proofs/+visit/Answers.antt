@@ -1,8 +1,6 @@
 -- `explore::visit` meets its contract. Assumes nothing.
-use Prim.Native.Nat.{ℕ, ◌<◌}
 use mathlib.Core.Path.{sym, ◌∙◌}
 use native.Mathlib.Omega.{arith}
-use borrow.Author.Rules.{rules}
 use Rattle.explore.proofs.Going.{both_inside, store_inside, went_both, went_store, stayed, went_none, went_known, room_after, ready_noted, ready_put}
 use Rattle.explore.proofs.+visit.Goals as goal
 
@@ -22,18 +20,18 @@ pub onward_at-w-requires : goal.onward_at-w-requires
 onward_at-w-requires t c = record { formed = c.requires.formed; r_in_bounds = c.requires.on_in_bounds.0 }
 
 pub visit-k-requires : goal.visit-k-requires
-visit-k-requires t c =     let i = both_inside c.requires.formed _ c.requires.on_in_bounds.0 (sym c.in-Both.is ∙ c.onward_at-w.ensures) in
+visit-k-requires t c = let i = both_inside c.requires.formed _ c.requires.on_in_bounds.0 (sym c.in-Both.is ∙ c.onward_at-w.ensures) in
     (omega (arith, c.decreases, c.if-fuel-eq0.false), (c.requires.formed, (ready_noted _ _ _ _ _ _ c.requires.ready (sym c.seen.ensures ∙ c.if-seen.false) c.mark.ensures, (rw c.moved.ensures.0 i.0, c.requires.on_in_bounds.1))))
 
 pub visit-requires : goal.visit-requires
-visit-requires t c =     let i = both_inside c.requires.formed _ c.requires.on_in_bounds.0 (sym c.in-Both.is ∙ c.onward_at-w.ensures) in
+visit-requires t c = let i = both_inside c.requires.formed _ c.requires.on_in_bounds.0 (sym c.in-Both.is ∙ c.onward_at-w.ensures) in
     (omega (arith, c.decreases, c.if-fuel-eq0.false), (c.requires.formed, (c.visit-k.ensures.ready_2, (rw c.moved-in-Both.ensures.0 i.1, c.requires.on_in_bounds.1))))
 
 pub tagged-requires : goal.tagged-requires
 tagged-requires t c = (store_inside c.requires.formed _ c.requires.on_in_bounds.0 (sym c.in-Store.is ∙ c.onward_at-w.ensures)).0
 
 pub visit-requires-in-Store : goal.visit-requires-in-Store
-visit-requires-in-Store t c =     let i = store_inside c.requires.formed _ c.requires.on_in_bounds.0 (sym c.in-Store.is ∙ c.onward_at-w.ensures) in
+visit-requires-in-Store t c = let i = store_inside c.requires.formed _ c.requires.on_in_bounds.0 (sym c.in-Store.is ∙ c.onward_at-w.ensures) in
     (omega (arith, c.decreases, c.if-fuel-eq0.false), (c.requires.formed, (ready_noted _ _ _ _ _ _ c.requires.ready (sym c.seen.ensures ∙ c.if-seen.false) c.mark.ensures, (rw c.moved-in-Store.ensures.0 i.1, c.requires.on_in_bounds.1))))
 
 pub overflow_mul-n : goal.overflow_mul-n

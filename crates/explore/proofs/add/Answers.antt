@@ -1,7 +1,6 @@
 -- `explore::add` meets its contract. Assumes nothing.
 use mathlib.Core.Path.{◌∙◌}
 use native.Mathlib.Omega.{arith}
-use borrow.Author.Rules.{rules}
 use lib.ListN.{set, length-set}
 use Prim.Native.Nat.{◌+◌, ◌*◌}
 use Rattle.explore.proofs.Naming.{add_old, add_full, add_new}

@@ -1,7 +1,6 @@
 -- `explore::begin_of` meets its contract. Assumes nothing.
 use mathlib.Core.Path.{refl, sym, ◌∙◌}
 use native.Mathlib.Omega.{arith}
-use borrow.Author.Rules.{rules}
 use Rattle.net.proofs.Inside.{net_length}
 use Rattle.explore.proofs.Memory.{slot_first}
 use Rattle.explore.proofs.Going.{new_ready, new_means}
@@ -28,6 +27,6 @@ pub shape_of-regs : goal.shape_of-regs
 shape_of-regs c = c.number_of.ensures.numbers.size ∙ sym c.requires.list_len.1
 
 pub returns : goal.returns
-returns c =     let f = counted_fit _ _ _ _ c.visit-n.ensures.ready_2 in
+returns c = let f = counted_fit _ _ _ _ c.visit-n.ensures.ready_2 in
     begun _ _ _ _ _ _ c.number_of.ensures.numbers (c.number_of.ensures.fit _ f)
     (slot_first _ _ c.visit-n.ensures.ready_2.size ∙ began _ _ (omega (arith, net_length c.args.file.now c.args.offs.now)) _ (first_thread _ refl refl) _ _ _ (c.visit-n.ensures.means _ (new_means _)))

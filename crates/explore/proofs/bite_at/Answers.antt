@@ -7,7 +7,6 @@ use Rattle.net.proofs.Reading.{at_range, at_mask}
 use Rattle.net.proofs.Inside.{rec_net}
 use Rattle.explore.proofs.Reading.{kind_in, range_in, mask_in}
 use Rattle.explore.proofs.Biting.{range_in_it, range_under, range_over, mask_in_it, mask_out, no_bite}
-use borrow.Author.Rules.{rules}
 use Rattle.explore.proofs.bite_at.Goals as goal
 
 pub bounds-file-at : goal.bounds-file-at

@@ -1,5 +1,4 @@
 -- `explore::consume` meets its contract. Assumes nothing.
-use borrow.Author.Rules.{rules}
 use Rattle.explore.proofs.Biting.{ate_none, ate_in, ate_one}
 use Rattle.explore.proofs.consume.Goals as goal
 

@@ -5,7 +5,6 @@ use Rattle.explore.specs.Onward.{closing_of}
 use Rattle.net.proofs.Reading.{at_range, at_mask, at_fork, at_tag}
 use Rattle.explore.proofs.Reading.{at_end, kind_in}
 use Rattle.net.proofs.Inside.{rec_net}
-use borrow.Author.Rules.{rules}
 use Rattle.explore.proofs.end_at.Goals as goal
 
 pub bounds-file-at : goal.bounds-file-at

@@ -1,10 +1,9 @@
 -- `explore::entry_at` meets its contract. Assumes nothing.
-use mathlib.Core.Path.{◌≡◌, refl, sym, ◌∙◌}
+use mathlib.Core.Path.{◌≡◌}
 use Prim.Native.Nat.{ℕ, ◌≤◌, ◌<◌, ◌+◌, ◌-◌}
-use native.Mathlib.Omega.{arith}
-use lib.ListN.{length, get_or, length-set}
-use Rattle.explore.proofs.Memory.{read_more, thread_at_is}
+use lib.ListN.{length, get_or}
 use Rattle.explore.proofs.entry_at.Given as goal
+
 abbrev pub invariant-loop-t : goal.invariant-loop-t
 invariant-loop-t l = (l.t ≤ 8) × ((length l.had ≡ 8) × ((k : ℕ) → k < l.t → get_or l.work (l.at + 1 + k) 0 ≡ get_or l.had k 0))
 

@@ -1,17 +1,6 @@
 -- `explore::expand` meets its contract. Assumes nothing.
-use mathlib.Core.Path.{◌≡◌, refl, sym, ◌∙◌}
-use mathlib.Core.Logic.{⊎_elim}
-use mathlib.Core.List.{map}
-use Prim.Native.Nat.{◌≤◌, ◌-◌}
+use mathlib.Core.Path.{refl, sym, ◌∙◌}
 use native.Mathlib.Omega.{arith}
-use lib.ListN.{length}
-use Rattle.paths.specs.Registers.{next}
-use Rattle.paths.specs.Equal.{same_situation}
-use Rattle.paths.specs.Numbering.{once}
-use Rattle.paths.specs.Limits.{bytes}
-use Rattle.net.specs.Items.{net_at}
-use Rattle.explore.specs.Slots.{slot, slots}
-use Rattle.explore.specs.Explore.{Kept}
 use Rattle.explore.proofs.Classes.{skipped}
 use Rattle.explore.proofs.Exploration.{once_none, expand_stop, expand_on, expanded, loaded}
 use Rattle.explore.proofs.expand.Goals as goal
@@ -43,8 +32,8 @@ loop-b-preserved c =
     let m = loaded _ _ _ _ (c.requires.kept.0.holds _ c.requires.kept.1) c.load-s.ensures in (
       omega arith,
       elim c.if-news-b-ne0.branch [
-        then-news-b-ne0+else-t-ne0 w ↦ rw (w.work-is, w.n-is) (w.try_byte-t.ensures.size ∙ c.loop-b.invariant.1.0, expand_on _ _ c.args.work.now _ _ _ _ _ _ m.0 _ _ c.loop-b.invariant.1.0 c.loop-b.invariant.1.1.1 w.try_byte-t.ensures w.if-t-ne0.false)
-      | else-news-b-ne0 w ↦ rw (w.work-is, w.n-is) (c.loop-b.invariant.1.0, (c.loop-b.invariant.1.1.0, c.loop-b.invariant.1.1.1 ∙ sym (skipped c.requires.formed.0 _ (c.requires.formed.1.old c.loop-b.b (omega arith) w.if-news-b-ne0.false) _ m.1.below _)))
+        | then-news-b-ne0+else-t-ne0 w ↦ rw (w.work-is, w.n-is) (w.try_byte-t.ensures.size ∙ c.loop-b.invariant.1.0, expand_on _ _ c.args.work.now _ _ _ _ _ _ m.0 _ _ c.loop-b.invariant.1.0 c.loop-b.invariant.1.1.1 w.try_byte-t.ensures w.if-t-ne0.false)
+        | else-news-b-ne0 w ↦ rw (w.work-is, w.n-is) (c.loop-b.invariant.1.0, (c.loop-b.invariant.1.1.0, c.loop-b.invariant.1.1.1 ∙ sym (skipped c.requires.formed.0 _ (c.requires.formed.1.old c.loop-b.b (omega arith) w.if-news-b-ne0.false) _ m.1.below _)))
       ],
     )
 

@@ -1,9 +1,7 @@
 -- `explore::expand` meets its contract. Assumes nothing.
-use mathlib.Core.Path.{◌≡◌, refl, sym, ◌∙◌}
-use mathlib.Core.Logic.{⊎_elim}
+use mathlib.Core.Path.{◌≡◌}
 use mathlib.Core.List.{map}
 use Prim.Native.Nat.{◌≤◌, ◌-◌}
-use native.Mathlib.Omega.{arith}
 use lib.ListN.{length}
 use Rattle.paths.specs.Registers.{next}
 use Rattle.paths.specs.Equal.{same_situation}
@@ -12,9 +10,8 @@ use Rattle.paths.specs.Limits.{bytes}
 use Rattle.net.specs.Items.{net_at}
 use Rattle.explore.specs.Slots.{slot, slots}
 use Rattle.explore.specs.Explore.{Kept}
-use Rattle.explore.proofs.Classes.{skipped}
-use Rattle.explore.proofs.Exploration.{once_none, expand_stop, expand_on, expanded, loaded}
 use Rattle.explore.proofs.expand.Given as goal
+
 abbrev pub invariant-loop-b : goal.invariant-loop-b
 invariant-loop-b l = (l.b ≤ 256) × ((length l.work ≡ length l.initial.work) × (Kept (length l.offs) l.work l.n × (slots l.work 0 l.n ≡ once same_situation (slots l.initial.work 0 l.count) (map (λ b. next (net_at l.file l.offs) b (slot l.s 0)) (bytes 0 l.b)))))
 

@@ -1,13 +1,6 @@
 -- `explore::explore` meets its contract. Assumes nothing.
-use mathlib.Core.Path.{◌≡◌, refl, sym, ◌∙◌}
-use Prim.Native.Nat.{◌≤◌, ◌-◌}
+use mathlib.Core.Path.{refl, sym, ◌∙◌}
 use native.Mathlib.Omega.{arith}
-use borrow.Author.Rules.{rules}
-use lib.ListN.{length}
-use Rattle.paths.specs.Limits.{first}
-use Rattle.net.specs.Items.{net_at}
-use Rattle.explore.specs.Slots.{slots}
-use Rattle.explore.specs.Explore.{Kept}
 use Rattle.explore.proofs.Exploration.{start_over, start_kept, start_slots, explore_stop, explore_on, explored_all_of}
 use Rattle.explore.proofs.explore.Goals as goal
 
@@ -42,7 +35,7 @@ pub loop-i-smaller : goal.loop-i-smaller
 loop-i-smaller c = omega (arith, c.loop-i.invariant.1.1.0.most)
 
 pub loop-i-preserved : goal.loop-i-preserved
-loop-i-preserved c =     let q = explore_on _ _ c.args.work.now _ _ _ _ _ (c.loop-i.invariant.1.0 ∙ c.store.ensures.size) c.loop-i.invariant.1.1.1 (omega arith) c.expand-u.ensures c.if-u-ne0.false in
+loop-i-preserved c = let q = explore_on _ _ c.args.work.now _ _ _ _ _ (c.loop-i.invariant.1.0 ∙ c.store.ensures.size) c.loop-i.invariant.1.1.1 (omega arith) c.expand-u.ensures c.if-u-ne0.false in
     (omega (arith, q.1.1), (c.expand-u.ensures.size ∙ c.loop-i.invariant.1.0, (q.0, q.1.0)))
 
 pub shape_of-work : goal.shape_of-work

@@ -1,15 +1,13 @@
 -- `explore::explore` meets its contract. Assumes nothing.
-use mathlib.Core.Path.{◌≡◌, refl, sym, ◌∙◌}
+use mathlib.Core.Path.{◌≡◌}
 use Prim.Native.Nat.{◌≤◌, ◌-◌}
-use native.Mathlib.Omega.{arith}
-use borrow.Author.Rules.{rules}
 use lib.ListN.{length}
 use Rattle.paths.specs.Limits.{first}
 use Rattle.net.specs.Items.{net_at}
 use Rattle.explore.specs.Slots.{slots}
 use Rattle.explore.specs.Explore.{Kept}
-use Rattle.explore.proofs.Exploration.{start_over, start_kept, start_slots, explore_stop, explore_on, explored_all_of}
 use Rattle.explore.proofs.explore.Given as goal
+
 abbrev pub invariant-loop-i : goal.invariant-loop-i
 invariant-loop-i l = (l.i ≤ l.count) × ((length l.work ≡ length l.initial.work) × (Kept (length l.offs) l.work l.count × (slots l.work 0 l.count ≡ first (net_at l.file l.offs) l.i)))
 

@@ -1,11 +1,5 @@
 -- `explore::find` meets its contract. Assumes nothing.
-use mathlib.Core.Path.{◌≡◌}
-use mathlib.Core.Logic.{⊎_elim}
-use Prim.Native.Nat.{◌≤◌, ◌+◌, ◌-◌}
 use native.Mathlib.Omega.{arith}
-use lib.ListN.{drop}
-use Rattle.paths.specs.Registers.{index}
-use Rattle.explore.specs.Keys.{keys_at}
 use Rattle.explore.proofs.Naming.{find_hit, find_miss, find_end}
 use Rattle.explore.proofs.find.Goals as goal
 use Rattle.explore.proofs.find.Goals.{then-regs-i+else-regs-i-2, else-regs-i}

@@ -1,12 +1,8 @@
 -- `explore::fresh` meets its contract. Assumes nothing.
 use mathlib.Core.Path.{◌≡◌, sym, ◌∙◌}
-use Prim.Native.Nat.{ℕ, ◌≤◌, ◌<◌, ◌-◌}
+use Prim.Native.Nat.{ℕ, ◌-◌}
 use native.Mathlib.Omega.{arith}
-use lib.ListN.{length}
-use Rattle.net.specs.Rec.{rec}
-use Rattle.paths.specs.Situation.{bite}
 use Rattle.net.specs.Items.{net_at}
-use Rattle.explore.specs.Items.{lands}
 use Rattle.explore.proofs.Classes.{alike_more}
 use Rattle.explore.proofs.fresh.Goals as goal
 

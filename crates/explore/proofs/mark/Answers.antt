@@ -10,10 +10,10 @@ use Rattle.explore.proofs.mark.Goals as goal
 
 pub returns : goal.returns
 unfolding count_of
-returns c =     record {
-      size = length-set c.args.marks.now c.args.r 1;
-      here = eq-eqb _ 1 (get_or-set_same c.args.marks.now c.args.r 1 0 (search rules));
-      else = λ q h. rw (get_or-set_other c.args.marks.now c.args.r q 1 0 h);
-      more = λ h. ones_set c.args.marks.now c.args.r (search rules) h;
-      room = omega (arith, ones_le (set c.args.marks.now c.args.r 1), length-set c.args.marks.now c.args.r 1);
-    }
+returns c = record {
+  size = length-set c.args.marks.now c.args.r 1;
+  here = eq-eqb _ 1 (get_or-set_same c.args.marks.now c.args.r 1 0 (search rules));
+  else = λ q h. rw (get_or-set_other c.args.marks.now c.args.r q 1 0 h);
+  more = λ h. ones_set c.args.marks.now c.args.r (search rules) h;
+  room = omega (arith, ones_le (set c.args.marks.now c.args.r 1), length-set c.args.marks.now c.args.r 1);
+}

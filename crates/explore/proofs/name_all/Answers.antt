@@ -1,7 +1,5 @@
 -- `explore::name_all` meets its contract. Assumes nothing.
-use Prim.Native.Nat.{◌≤◌, ◌-◌}
 use native.Mathlib.Omega.{arith}
-use Rattle.explore.specs.Keys.{keys_at, Named}
 use Rattle.explore.proofs.Naming.{named_none, named_more, named_end}
 use Rattle.explore.proofs.name_all.Goals as goal
 

@@ -1,9 +1,8 @@
 -- `explore::name_all` meets its contract. Assumes nothing.
 use Prim.Native.Nat.{◌≤◌, ◌-◌}
-use native.Mathlib.Omega.{arith}
 use Rattle.explore.specs.Keys.{keys_at, Named}
-use Rattle.explore.proofs.Naming.{named_none, named_more, named_end}
 use Rattle.explore.proofs.name_all.Given as goal
+
 abbrev pub invariant-loop-i : goal.invariant-loop-i
 invariant-loop-i l = (l.i ≤ l.n) × Named (keys_at l.regs 0 l.k) l.initial.list l.list l.i
 

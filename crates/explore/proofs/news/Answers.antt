@@ -1,11 +1,5 @@
 -- `explore::news` meets its contract. Assumes nothing.
-use mathlib.Core.Logic.{⊎_elim}
-use Prim.Native.Nat.{◌≤◌, ◌-◌}
 use native.Mathlib.Omega.{arith}
-use lib.ListN.{length}
-use borrow.Author.Tests.{not-true}
-use Rattle.net.specs.Items.{net_at}
-use Rattle.explore.specs.Explore.{Told}
 use Rattle.explore.proofs.Classes.{told_none, told_more}
 use Rattle.std.proofs.Common.{rules}
 use Rattle.explore.proofs.news.Goals as goal

@@ -1,7 +1,6 @@
 -- `explore::number_of` meets its contract. Assumes nothing.
 use mathlib.Core.Path.{sym, ◌∙◌}
 use native.Mathlib.Omega.{arith}
-use borrow.Author.Rules.{rules}
 use lib.ListN.{length-set}
 use Rattle.explore.proofs.Naming.{number_over, number_fine, number_fit}
 use Rattle.explore.proofs.number_of.Goals as goal

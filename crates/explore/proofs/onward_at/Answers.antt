@@ -5,7 +5,6 @@ use Rattle.explore.specs.Onward.{onward_of}
 use Rattle.net.proofs.Reading.{at_fork, at_tag}
 use Rattle.explore.proofs.Reading.{at_stay, kind_in, fork_in, tag_in}
 use Rattle.net.proofs.Inside.{rec_net}
-use borrow.Author.Rules.{rules}
 use Rattle.explore.proofs.onward_at.Goals as goal
 
 pub bounds-file-at : goal.bounds-file-at

@@ -1,9 +1,6 @@
 -- `explore::place` meets its contract. Assumes nothing.
-use mathlib.Core.Path.{◌≡◌, sym, ◌∙◌}
-use mathlib.Core.Bool.{false}
-use Prim.Native.Nat.{ℕ, ◌≤◌, ◌<◌, ◌-◌}
+use mathlib.Core.Path.{sym, ◌∙◌}
 use native.Mathlib.Omega.{arith}
-use Rattle.paths.specs.Equal.{same_situation}
 use Rattle.explore.specs.Slots.{slot}
 use Rattle.explore.proofs.Memory.{placed_at, placed_none, none_more}
 use Rattle.explore.proofs.place.Goals as goal

@@ -1,12 +1,7 @@
 -- `explore::registers_of` meets its contract. Assumes nothing.
-use mathlib.Core.Path.{◌≡◌, sym, ap, ◌∙◌}
-use mathlib.Core.List.{[], foldl}
-use Prim.Native.Nat.{◌≤◌, ◌-◌}
+use mathlib.Core.Path.{sym, ap, ◌∙◌}
 use native.Mathlib.Omega.{arith}
-use lib.ListN.{length}
-use Rattle.paths.specs.Registers.{note, held_by}
-use Rattle.explore.specs.Slots.{threads_at}
-use Rattle.explore.specs.Keys.{keys_at}
+use Rattle.paths.specs.Registers.{held_by}
 use Rattle.explore.proofs.Naming.{list_over, list_on, gathered, none_held, slot_whole}
 use Rattle.explore.proofs.registers_of.Goals as goal
 

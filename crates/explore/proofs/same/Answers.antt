@@ -1,9 +1,7 @@
 -- `explore::same` meets its contract. Assumes nothing.
-use borrow.Author.Tests.{not-true, not-false}
-use mathlib.Core.Path.{◌≡◌, sym, ◌∙◌}
-use Prim.Native.Nat.{ℕ, ◌≤◌, ◌<◌, ◌+◌, ◌*◌, ◌-◌}
+use mathlib.Core.Path.{sym, ◌∙◌}
+use Prim.Native.Nat.{◌+◌, ◌*◌}
 use native.Mathlib.Omega.{arith}
-use Rattle.explore.specs.Slots.{thread_at}
 use Rattle.explore.proofs.Memory.{other_count, other_entry, all_same, same_more}
 use Rattle.explore.proofs.same.Goals as goal
 
@@ -47,13 +45,13 @@ pub same_entry-requires : goal.same_entry-requires
 same_entry-requires c = omega (arith, c.requires.0, c.requires.1.1)
 
 pub returns-then-not-same_entry : goal.returns-then-not-same_entry
-returns-then-not-same_entry c = other_entry _ _ _ c.if-work-base.false c.loop-i.i (omega arith) _ c.entry_at-e.ensures (sym c.same_entry.ensures ∙ not-true c.same_entry.result c.if-not-same_entry.true-raw)
+returns-then-not-same_entry c = other_entry _ _ _ c.if-work-base.false c.loop-i.i (omega arith) _ c.entry_at-e.ensures (sym c.same_entry.ensures ∙ c.if-not-same_entry.true)
 
 pub overflow_add-i-in-loop-i : goal.overflow_add-i-in-loop-i
 overflow_add-i-in-loop-i c = omega (arith, c.requires.1.1)
 
 pub loop-i-preserved : goal.loop-i-preserved
-loop-i-preserved c = (omega arith, same_more _ _ (578 * c.args.j + 2) c.loop-i.i c.loop-i.invariant.1 _ c.entry_at-e.ensures (sym (not-false c.same_entry.result c.if-not-same_entry.false-raw) ∙ c.same_entry.ensures))
+loop-i-preserved c = (omega arith, same_more _ _ (578 * c.args.j + 2) c.loop-i.i c.loop-i.invariant.1 _ c.entry_at-e.ensures (sym c.if-not-same_entry.false ∙ c.same_entry.ensures))
 
 pub returns : goal.returns
 returns c = all_same _ _ _ c.if-work-base.false c.loop-i.i (omega arith) c.loop-i.invariant.1

@@ -1,11 +1,9 @@
 -- `explore::same_entry` meets its contract. Assumes nothing.
 use mathlib.Core.Path.{◌≡◌}
 use Prim.Native.Nat.{ℕ, ◌≤◌, ◌<◌, ◌+◌, ◌-◌}
-use native.Mathlib.Omega.{arith}
-use borrow.Author.Rules.{rules}
-use lib.ListN.{length, get_or}
-use Rattle.explore.proofs.Memory.{differ_on, differ_had, same_all, eq_more}
+use lib.ListN.{get_or}
 use Rattle.explore.proofs.same_entry.Given as goal
+
 abbrev pub invariant-loop-t : goal.invariant-loop-t
 invariant-loop-t l = (l.t ≤ 8) × ((k : ℕ) → k < l.t → get_or l.work (l.at + 1 + k) 0 ≡ get_or l.e.had k 0)
 

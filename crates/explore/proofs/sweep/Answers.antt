@@ -1,16 +1,7 @@
 -- `explore::sweep` meets its contract. Assumes nothing.
 use mathlib.Core.Path.{sym, ◌∙◌}
-use mathlib.Core.List.{[], foldl}
-use Prim.Native.Nat.{suc, ◌≤◌, ◌-◌}
 use native.Mathlib.Omega.{arith}
-use lib.ListN.{length, length-set}
-use Rattle.ground.specs.Lists.{each}
-use Rattle.paths.specs.Situation.{on_byte}
-use Rattle.paths.specs.Registers.{tagged}
-use Rattle.paths.specs.Marks.{marking}
-use Rattle.net.specs.Items.{net_at}
-use Rattle.explore.specs.Slots.{threads_at}
-use Rattle.explore.specs.Visit.{Ready, Means}
+use lib.ListN.{length-set}
 use Rattle.explore.proofs.Memory.{slot_first}
 use Rattle.explore.proofs.Going.{new_ready}
 use Rattle.explore.proofs.Biting.{means_none, means_more, below_at, swept, counted_fit}

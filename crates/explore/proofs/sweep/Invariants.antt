@@ -1,9 +1,7 @@
 -- `explore::sweep` meets its contract. Assumes nothing.
-use mathlib.Core.Path.{sym, ◌∙◌}
 use mathlib.Core.List.{[], foldl}
 use Prim.Native.Nat.{suc, ◌≤◌, ◌-◌}
-use native.Mathlib.Omega.{arith}
-use lib.ListN.{length, length-set}
+use lib.ListN.{length}
 use Rattle.ground.specs.Lists.{each}
 use Rattle.paths.specs.Situation.{on_byte}
 use Rattle.paths.specs.Registers.{tagged}
@@ -11,10 +9,8 @@ use Rattle.paths.specs.Marks.{marking}
 use Rattle.net.specs.Items.{net_at}
 use Rattle.explore.specs.Slots.{threads_at}
 use Rattle.explore.specs.Visit.{Ready, Means}
-use Rattle.explore.proofs.Memory.{slot_first}
-use Rattle.explore.proofs.Going.{new_ready}
-use Rattle.explore.proofs.Biting.{means_none, means_more, below_at, swept, counted_fit}
 use Rattle.explore.proofs.sweep.Given as goal
+
 abbrev pub invariant-loop-i : goal.invariant-loop-i
 invariant-loop-i l = (l.i ≤ l.m) × (Ready (length l.offs) l.marks l.list l.n × Means l.marks l.list l.n (foldl (marking (tagged l.stamp) (net_at l.file l.offs) (suc (length (net_at l.file l.offs)))) (record { marks = []; list = [] }) (each (on_byte (tagged l.stamp) (net_at l.file l.offs) l.b) (threads_at l.s 2 l.i))))
 

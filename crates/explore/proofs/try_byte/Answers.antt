@@ -1,5 +1,4 @@
 -- `explore::try_byte` meets its contract. Assumes nothing.
-use borrow.Author.Rules.{rules}
 use mathlib.Core.Path.{refl, sym}
 use native.Mathlib.Omega.{arith}
 use Rattle.explore.proofs.Exploration.{tried_over, tried_old, tried_full, tried_new}

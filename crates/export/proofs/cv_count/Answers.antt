@@ -1,7 +1,6 @@
 -- `export::cv_count` meets its contract. Assumes nothing.
 use mathlib.Core.Path.{ap}
 use Rattle.net.specs.declared.Count.{Count}
-use borrow.Author.Rules.{rules}
 use Rattle.export.proofs.cv_count.Goals as goal
 
 pub returns : goal.returns

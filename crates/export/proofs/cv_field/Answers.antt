@@ -2,19 +2,14 @@
 use mir.Syntax.{w16}
 use mir.ValLaws.{to_z-of_z}
 use native.Mathlib.Omega.{arith}
-use mathlib.Core.Path.{◌≡◌, refl, sym, ap, subst}
-use mathlib.Core.List.{List}
-use Prim.Native.Nat.{ℕ}
-use lib.ListN.{length}
-use Rattle.export.specs.Copied.{Copies}
-use Rattle.export.proofs.Copying.{copied_in, no_room}
-use borrow.Author.Rules.{rules}
+use mathlib.Core.Path.{refl}
+use Rattle.export.proofs.Copying.{no_room}
 use Rattle.export.proofs.cv_field.Goals as goal
 
 pub returns-then-part-out : goal.returns-then-part-out
-returns-then-part-out c =     let e = rw (to_z-of_z w16 _ c.ranges.from, to_z-of_z w16 _ c.ranges.to) at c.field-part.ensures.bytes in
+returns-then-part-out c = let e = rw (to_z-of_z w16 _ c.ranges.from, to_z-of_z w16 _ c.ranges.to) at c.field-part.ensures.bytes in
     rw (← e) c.copy.ensures
 
 pub returns : goal.returns
-returns c =     let e = rw (to_z-of_z w16 _ c.ranges.from, to_z-of_z w16 _ c.ranges.to) at c.field-part.ensures.bytes in
+returns c = let e = rw (to_z-of_z w16 _ c.ranges.from, to_z-of_z w16 _ c.ranges.to) at c.field-part.ensures.bytes in
     rw (← e) (no_room _ _ _ (omega arith) refl)

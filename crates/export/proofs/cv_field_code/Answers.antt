@@ -1,7 +1,6 @@
 -- `export::cv_field_code` meets its contract. Assumes nothing.
 use mir.Syntax.{w16}
 use mir.ValLaws.{to_z-of_z}
-use borrow.Author.Rules.{rules}
 use Rattle.export.proofs.cv_field_code.Goals as goal
 
 pub returns : goal.returns

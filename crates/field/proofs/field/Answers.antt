@@ -2,8 +2,6 @@
 use Prim.Native.Nat.{ℕ}
 use native.Mathlib.Nat.{zero-add}
 use mathlib.Core.Path.{◌≡◌, refl, sym, ap, ◌∙◌}
-use borrow.Author.Rules.{rules}
-use lib.ListN.{length}
 use lib.IntN.{ℤ}
 use mir.Syntax.{w16}
 use mir.Val.{SFits, to_z, of_z}
@@ -15,7 +13,7 @@ use Rattle.field.proofs.Cuts.{cut_passed, within, handed_part, handed_none}
 use Rattle.field.proofs.field.Goals as goal
 
 pub returns-in_default : goal.returns-in_default
-returns-in_default c =     handed_none c.args.line _
+returns-in_default c = handed_none c.args.line _
     (sym (cut_passed _ _ _ c.ranges.from c.ranges.to c.between-c.ensures) ∙ c.in_default.is)
     refl
     (ap (λ (o : ℕ). (c.args.line.ref_ptr.0, o)) (sym (zero-add c.args.line.ref_ptr.1)))

@@ -1,6 +1,5 @@
 -- `held` meets its contract: a place up to the largest fits sixteen signed bits. Assumes nothing.
 use Rattle.ground.proofs.Places.{to_place}
-use borrow.Author.Rules.{rules}
 use Rattle.ground.proofs.held.Goals as goal
 
 pub returns : goal.returns

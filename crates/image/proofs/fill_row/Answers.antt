@@ -22,7 +22,7 @@ overflow_add-b c = omega (arith, c.loop-b.invariant.most)
 
 pub loop-b-preserved : goal.loop-b-preserved
 loop-b-preserved c = elim c.if-p-i.branch [
-    then-p-i w ↦ filling_new c.requires.room c.loop-b.invariant c.loop-b-test.true _ c.row_spot-p.ensures w.i-is (w.e-is ∙ w.entry_at-e-then-p-i.ensures)
+  | then-p-i w ↦ filling_new c.requires.room c.loop-b.invariant c.loop-b-test.true _ c.row_spot-p.ensures w.i-is (w.e-is ∙ w.entry_at-e-then-p-i.ensures)
   | else-p-i w ↦ filling_same c.requires.room c.loop-b.invariant c.loop-b-test.true _ c.row_spot-p.ensures w.if-p-i.false w.i-is w.e-is
 ]
 

@@ -2,6 +2,7 @@
 use Prim.Native.Nat.{◌-◌}
 use Rattle.image.proofs.Written.{Filling}
 use Rattle.image.proofs.fill_row.Given as goal
+
 abbrev pub invariant-loop-b : goal.invariant-loop-b
 invariant-loop-b l = Filling l.s l.at l.from l.initial.image l.image l.i l.e l.b
 

@@ -4,6 +4,7 @@ use mathlib.Core.Path.{◌≡◌}
 use lib.ListN.{length}
 use Rattle.image.specs.Image.{spot_at}
 use Rattle.image.proofs.row_spot.Given as goal
+
 abbrev pub invariant-loop-hi : goal.invariant-loop-hi
 invariant-loop-hi l = spot_at l.s l.i l.b ≡ spot_at l.s l.at l.b
 

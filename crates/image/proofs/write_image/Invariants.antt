@@ -2,6 +2,7 @@
 use Prim.Native.Nat.{◌-◌}
 use Rattle.image.proofs.Written.{Written}
 use Rattle.image.proofs.write_image.Given as goal
+
 abbrev pub invariant-loop-q : goal.invariant-loop-q
 invariant-loop-q l = Written l.s l.initial.image l.image l.q
 

@@ -19,11 +19,10 @@ returns-then-holds c = field_asks _ _ _ c.requires _ c.loop-t-test.true c.if-f-l
 
 pub loop-t-preserved : goal.loop-t-preserved
 loop-t-preserved c =
-    let fit : Fits w64 c.args.m = c.ranges.m in
-    (
+    let fit : Fits w64 c.args.m = c.ranges.m in (
       omega arith,
       next_field c.args.s.now c.args.at c.args.m c.loop-t.t c.loop-t.invariant.1 (elim c.if-f-lt64.branch [
-          then-f-lt64+else-holds w ↦ says_no w.if-holds.false w.holds.ensures
+        | then-f-lt64+else-holds w ↦ says_no w.if-holds.false w.holds.ensures
         | else-f-lt64 w ↦ high_field _ _ fit.fits w.if-f-lt64.false
       ]),
     )

@@ -2,6 +2,7 @@
 use Prim.Native.Nat.{◌-◌, ◌≤◌}
 use Rattle.loader.proofs.Walk.{Unread}
 use Rattle.loader.proofs.fields_ask.Given as goal
+
 abbrev pub invariant-loop-t : goal.invariant-loop-t
 invariant-loop-t l = (l.t ≤ 8) × Unread l.s l.at l.m l.t
 

@@ -42,5 +42,5 @@ pub loop-next-smaller : goal.loop-next-smaller
 loop-next-smaller c = let f = row_whole _ _ _ _ _ (sym c.read_row-row.ensures ∙ c.in-Leads.is) in omega (arith, c.list_at-g.ensures.onward)
 
 pub loop-next-preserved : goal.loop-next-preserved
-loop-next-preserved c =     let fit : Fits w64 c.list_at-g.result.writes = search rules in
+loop-next-preserved c = let fit : Fits w64 c.list_at-g.result.writes = search rules in
     flowing_on c.loop-next.invariant c.requires.0 c.requires.1 (sym c.read_row-row.ensures ∙ c.in-Leads.is) c.list_at-g.ensures fit.fits _ c.flowed-new.ensures

@@ -3,6 +3,7 @@ use Prim.Native.Nat.{◌-◌}
 use lib.ListN.{length}
 use Rattle.loader.proofs.Flowing.{Flowing}
 use Rattle.loader.proofs.flow_rows.Given as goal
+
 abbrev pub invariant-loop-next : goal.invariant-loop-next
 invariant-loop-next l = Flowing l.s l.at l.q l.initial.may l.may l.i
 

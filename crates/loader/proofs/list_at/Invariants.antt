@@ -3,6 +3,7 @@ use Prim.Native.Nat.{◌-◌}
 use lib.ListN.{length}
 use Rattle.loader.proofs.Listing.{Listing}
 use Rattle.loader.proofs.list_at.Given as goal
+
 abbrev pub invariant-loop-to : goal.invariant-loop-to
 invariant-loop-to l = Listing l.s l.at l.writes l.reads l.i
 

@@ -19,7 +19,7 @@ pub overflow_add-i : goal.overflow_add-i
 overflow_add-i c = let f = row_whole _ _ _ _ _ (sym c.read_row-row.ensures ∙ c.in-Leads.is) in omega arith
 
 pub returns-then-g-m-ne0 : goal.returns-then-g-m-ne0
-returns-then-g-m-ne0 c =     let e = sym c.read_row-row.ensures ∙ c.in-Leads.is in
+returns-then-g-m-ne0 c = let e = sym c.read_row-row.ensures ∙ c.in-Leads.is in
     let a : Fits w64 c.list_at-g.result.reads = search rules in
     let b : Fits w64 c.args.m = search rules in
     (_, (row_in _ _ _ e c.loop-g.invariant.0, asks_one _ _ _ c.list_at-g.ensures.reads a.fits b.fits c.if-g-m-ne0.true))
@@ -28,5 +28,5 @@ pub loop-g-smaller : goal.loop-g-smaller
 loop-g-smaller c = let f = row_whole _ _ _ _ _ (sym c.read_row-row.ensures ∙ c.in-Leads.is) in omega (arith, c.list_at-g.ensures.onward)
 
 pub loop-g-preserved : goal.loop-g-preserved
-loop-g-preserved c =     let e = sym c.read_row-row.ensures ∙ c.in-Leads.is in
+loop-g-preserved c = let e = sym c.read_row-row.ensures ∙ c.in-Leads.is in
     (back_next _ _ _ e _ c.list_at-g.ensures.end c.loop-g.invariant.0, done_next _ _ _ e _ c.list_at-g.ensures.end c.loop-g.invariant.1 (asks_none _ _ _ c.list_at-g.ensures.reads c.if-g-m-ne0.false))

@@ -7,7 +7,7 @@ use Rattle.loader.proofs.Passes.{no_flag, begin, falls, settled}
 use Rattle.loader.proofs.settle.Goals as goal
 
 pub loop-again-init : goal.loop-again-init
-loop-again-init c =     let fit : Fits w64 c.flowed.result = search rules in
+loop-again-init c = let fit : Fits w64 c.flowed.result = search rules in
     (begin _ _ (start_is _ c.flowed.ensures c.list_at-g.ensures.writes) fit.fits, λ e. absurd (no_flag e))
 
 pub sweep-again-requires : goal.sweep-again-requires

@@ -5,6 +5,7 @@ use Rattle.card.specs.Decode.{table_at}
 use Rattle.loader.specs.Flow.{Closed, Round}
 use Rattle.loader.proofs.Passes.{left}
 use Rattle.loader.proofs.settle.Given as goal
+
 abbrev pub invariant-loop-again : goal.invariant-loop-again
 invariant-loop-again l = Round (table_at l.s) l.may l.seen × (l.again ≡ false → Closed (table_at l.s) l.may)
 

@@ -46,7 +46,7 @@ loop-q-preserved c =
     let l : c.loop-q.q < get_or c.args.s.now 4 0 = omega (arith, c.sit_count-count.ensures.0) in (
       omega arith,
       elim c.if-all-old.branch [
-          then-all-old w ↦ rw (w.may-is, w.seen-is, w.changed-is) (sweeping_more c.loop-q.invariant.1 c.requires.0 l _ refl w.if-all-old.true w.flow_rows.ensures)
+        | then-all-old w ↦ rw (w.may-is, w.seen-is, w.changed-is) (sweeping_more c.loop-q.invariant.1 c.requires.0 l _ refl w.if-all-old.true w.flow_rows.ensures)
         | else-all-old w ↦ rw (w.may-is, w.seen-is, w.changed-is) (sweeping_same c.loop-q.invariant.1 w.if-all-old.false)
       ],
     )

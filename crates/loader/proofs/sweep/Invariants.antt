@@ -2,6 +2,7 @@
 use Prim.Native.Nat.{◌-◌, ◌≤◌}
 use Rattle.loader.proofs.Sweeping.{Sweeping}
 use Rattle.loader.proofs.sweep.Given as goal
+
 abbrev pub invariant-loop-q : goal.invariant-loop-q
 invariant-loop-q l = (l.q ≤ l.count) × Sweeping l.s l.may l.seen l.initial.seen l.changed l.q
 

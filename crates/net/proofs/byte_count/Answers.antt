@@ -3,7 +3,6 @@ use mathlib.Core.Path.{ap, ◌∙◌}
 use native.Mathlib.Omega.{arith}
 use Rattle.net.specs.Count.{refuse, byte_count}
 use Rattle.net.proofs.Counting.{count_refused, layout_few, absent, never_refused, can_count, counts_it}
-use borrow.Author.Rules.{rules}
 use Rattle.net.proofs.byte_count.Goals as goal
 
 pub returns-then-code-ne0 : goal.returns-then-code-ne0

@@ -2,7 +2,6 @@
 use borrow.Author.Tests.{le-leb, lt-leb}
 use Rattle.net.specs.Calls.{item_shown}
 use Rattle.net.proofs.Reading.{at_end, body_cut, body_off, body_got}
-use borrow.Author.Rules.{rules}
 use Rattle.net.proofs.end_item.Goals as goal
 
 pub returns-then-s-at : goal.returns-then-s-at

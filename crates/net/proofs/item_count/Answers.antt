@@ -2,7 +2,6 @@
 use mathlib.Core.Path.{sym, ap, ◌∙◌}
 use Rattle.net.specs.Count.{rec_count, rec_shown}
 use Rattle.net.specs.declared.Item.{Item}
-use borrow.Author.Rules.{rules}
 use Rattle.net.proofs.item_count.Goals as goal
 
 pub range_count-requires : goal.range_count-requires

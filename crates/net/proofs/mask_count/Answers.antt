@@ -2,7 +2,6 @@
 use mathlib.Core.Path.{ap₂, ◌∙◌}
 use Prim.Native.Nat.{◌+◌}
 use Rattle.net.proofs.Bits.{mask_words}
-use borrow.Author.Rules.{rules}
 use Rattle.net.proofs.mask_count.Goals as goal
 
 pub returns : goal.returns

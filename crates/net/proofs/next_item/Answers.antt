@@ -1,7 +1,6 @@
 -- `net::next_item` meets its contract. The kind decides, and the kind's own function has read the body. Assumes nothing.
 use mathlib.Core.Path.{◌∙◌}
 use Rattle.net.proofs.Reading.{item_none, item_body, item_unknown, unknown}
-use borrow.Author.Rules.{rules}
 use Rattle.net.proofs.next_item.Goals as goal
 
 pub returns-then-s-at : goal.returns-then-s-at

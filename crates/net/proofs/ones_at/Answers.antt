@@ -3,7 +3,6 @@ use mathlib.Core.Path.{ap, ◌∙◌}
 use native.Mathlib.Omega.{arith}
 use lib.Count.{ones, ones-le}
 use Rattle.net.proofs.Bits.{word_ones}
-use borrow.Author.Rules.{rules}
 use Rattle.net.proofs.ones_at.Goals as goal
 
 pub returns : goal.returns

@@ -1,7 +1,6 @@
 -- `net::range_count` meets its contract. Assumes nothing.
 use native.Mathlib.Omega.{arith}
 use Rattle.net.proofs.Bits.{range_counts}
-use borrow.Author.Rules.{rules}
 use Rattle.net.proofs.range_count.Goals as goal
 
 pub returns : goal.returns

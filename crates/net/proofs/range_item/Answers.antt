@@ -2,7 +2,6 @@
 use borrow.Author.Tests.{lt-ltb, le-ltb, le-leb, lt-leb}
 use Rattle.net.specs.Calls.{item_shown}
 use Rattle.net.proofs.Reading.{at_range, body_cut, body_off, body_got}
-use borrow.Author.Rules.{rules}
 use Rattle.net.proofs.range_item.Goals as goal
 
 pub returns-then-s-at : goal.returns-then-s-at

@@ -3,7 +3,6 @@ use borrow.Author.Tests.{eq-eqb, ne_eqb, lt-ltb, le-ltb, le-leb, lt-leb}
 use Rattle.ground.specs.Pick.{pick}
 use Rattle.net.specs.Items.{number, head_of}
 use Rattle.net.specs.Calls.{head_shown}
-use borrow.Author.Rules.{rules}
 use Rattle.net.proofs.read_head.Goals as goal
 
 pub returns-then-s-eq0 : goal.returns-then-s-eq0

@@ -14,13 +14,13 @@ use Rattle.reading.proofs.position.Goals as goal
 
 pub returns-then-tag-lt8 : goal.returns-then-tag-lt8
 unfolding position_of
-returns-then-tag-lt8 c =     let n : length c.args.places ≡ 8 = search rules in
-    to_z-of_z w16 (get_or c.args.places c.wide-i.result (pos 0)) (record { sfits = c.result-1.given })
+returns-then-tag-lt8 c = let n : length c.args.places ≡ 8 = search rules in
+    to_z-of_z w16 (get_or c.args.places c.wide-i.result (pos 0)) (search rules)
     ∙ ap (λ (i : ℕ). get_or c.args.places i (pos 0)) c.wide-i.ensures
     ∙ same_inside c.args.places c.args.tag (pos 0) absent (omega arith)
 
 pub returns : goal.returns
 unfolding position_of
-returns c =     let n : length c.args.places ≡ 8 = search rules in
+returns c = let n : length c.args.places ≡ 8 = search rules in
     let h : length c.args.places ≤ c.args.tag = omega arith in
     sym (get_or-eq_default c.args.places absent h)

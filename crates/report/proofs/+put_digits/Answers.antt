@@ -1,6 +1,5 @@
-use Prim.Native.Nat.{ℕ, ◌<◌, ◌-◌, ◌/◌}
+use Prim.Native.Nat.{◌-◌, ◌/◌}
 use native.Mathlib.Omega.{arith}
-use borrow.Author.Rules.{rules}
 use Rattle.report.proofs.Writing.{put_none, put_small, put_more, digits_few}
 use Rattle.report.proofs.+put_digits.Goals as goal
 
@@ -11,7 +10,7 @@ pub returns-then-n-lt10 : goal.returns-then-n-lt10
 returns-then-n-lt10 t c = put_small _ _ (λ e. omega arith) (omega arith) c.put_byte.ensures
 
 pub put_byte-requires-2 : goal.put_byte-requires-2
-put_byte-requires-2 t c =     let f = digits_few (c.args.k - 1) (c.args.n / 10) in
+put_byte-requires-2 t c = let f = digits_few (c.args.k - 1) (c.args.n / 10) in
     omega (arith, c.put_digits-end.ensures.size, c.put_digits-end.ensures.next, f)
 
 pub returns : goal.returns

@@ -1,10 +1,6 @@
 -- `report::line_end` meets its contract: what was passed is no byte 10. Assumes nothing.
-use Prim.Native.Nat.{◌+◌, ◌-◌, ◌≤◌}
 use native.Mathlib.Omega.{arith}
-use mathlib.Core.Path.{◌≡◌, refl}
-use borrow.Author.Rules.{rules}
-use lib.ListN.{length, drop}
-use Rattle.report.specs.Steps.{line_length}
+use mathlib.Core.Path.{refl}
 use Rattle.report.proofs.Splitting.{ends_here, goes_past, ends_last}
 use Rattle.report.proofs.line_end.Goals as goal
 

@@ -1,5 +1,4 @@
 -- `report::put_byte` meets its contract. Assumes nothing.
-use borrow.Author.Rules.{rules}
 use Rattle.report.proofs.Writing.{wrote_byte}
 use Rattle.report.proofs.put_byte.Goals as goal
 

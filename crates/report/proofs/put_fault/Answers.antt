@@ -1,6 +1,5 @@
 -- `report::put_fault` meets its contract: the line by the two tests. Assumes nothing.
 use Rattle.report.proofs.Choosing.{wrote_as, fault_form, fault_deep, fault_other}
-use borrow.Author.Rules.{rules}
 use Rattle.report.proofs.put_fault.Goals as goal
 
 pub returns-then-code-eq2 : goal.returns-then-code-eq2

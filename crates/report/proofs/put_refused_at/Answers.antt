@@ -1,5 +1,4 @@
 -- `report::put_refused_at` meets its contract: its texts one after the other. Assumes nothing.
-use borrow.Author.Rules.{rules}
 use Rattle.report.specs.Lines.{refused_at}
 use Rattle.report.proofs.Writing.{wrote_then}
 use Rattle.report.proofs.put_refused_at.Goals as goal

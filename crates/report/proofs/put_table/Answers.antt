@@ -1,6 +1,5 @@
 -- `report::put_table` meets its contract: its texts one after the other. Assumes nothing.
 use native.Mathlib.Omega.{arith}
-use borrow.Author.Rules.{rules}
 use Rattle.report.specs.Lines.{table_line}
 use Rattle.report.proofs.Writing.{wrote_then}
 use Rattle.report.proofs.put_table.Goals as goal

@@ -1,7 +1,6 @@
 -- `report::put_told` meets its contract: the line by the code. Assumes nothing.
 use native.Mathlib.Omega.{arith}
 use Rattle.report.proofs.Choosing.{wrote_as, told_refused, told_answer}
-use borrow.Author.Rules.{rules}
 use Rattle.report.proofs.put_told.Goals as goal
 
 pub returns-then-code-ne0 : goal.returns-then-code-ne0

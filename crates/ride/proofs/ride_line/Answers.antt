@@ -15,7 +15,7 @@ pub told-requires : goal.told-requires
 told-requires c = (
   c.requires.0,
   elim c.if-g-line.branch [
-      then-g-line w ↦ rw w.row-is w.ride_rest-row.ensures.1
+    | then-g-line w ↦ rw w.row-is w.ride_rest-row.ensures.1
     | else-g-line w ↦ rw w.row-is (inr c.glide-g.ensures.standing)
   ],
 )
@@ -24,6 +24,6 @@ pub returns : goal.returns
 returns c =
     c.told.ensures
     ∙ elim c.if-g-line.branch [
-        then-g-line w ↦ rw (w.bank-is, w.row-is) (w.ride_rest-row.ensures.0 ∙ rest_so c.requires.0 c.args.line.now c.set_list.ensures c.glide-g.ensures)
+      | then-g-line w ↦ rw (w.bank-is, w.row-is) (w.ride_rest-row.ensures.0 ∙ rest_so c.requires.0 c.args.line.now c.set_list.ensures c.glide-g.ensures)
       | else-g-line w ↦ rw (w.bank-is, w.row-is) (end_so c.requires.0 c.args.line.now c.set_list.ensures c.glide-g.ensures w.if-g-line.false)
     ]

@@ -41,7 +41,7 @@ loop-i-preserved-then-e-lt-LISTED c =
     rw (c.held-v.ensures, to_z-of_z w16 (pos place) (place_fits place (omega (arith, c.loop-i-test.true, c.requires.1.short))))
     (going_one c.requires.0 c.loop-i.invariant c.word-e.result c.loop-i-test.true c.wide-b.ensures c.word-e.ensures
     (elim c.if-next-row.branch [
-        then-next-row+else-limit-next v ↦ went_on c.loop-i.invariant.standing c.word-e.result v.if-limit-next.false v.row-is
+      | then-next-row+else-limit-next v ↦ went_on c.loop-i.invariant.standing c.word-e.result v.if-limit-next.false v.row-is
       | else-next-row v ↦ went_round c.loop-i.invariant.standing c.word-e.result v.if-next-row.false v.row-is
     ])
     c.if-e-lt-LISTED.true refl)
@@ -52,11 +52,11 @@ obey-requires c = (c.if-e-lt-LISTED.false, omega (arith, c.loop-i-test.true, c.r
 pub returns-then-not-obey : goal.returns-then-not-obey
 returns-then-not-obey c = (
   going_missed c.requires.0 c.loop-i.invariant c.word-e.result c.loop-i-test.true c.wide-b.ensures c.word-e.ensures {there = c.if-next-row.row}
-    (elim c.if-next-row.branch [
-        then-next-row+else-limit-next v ↦ went_on c.loop-i.invariant.standing c.word-e.result v.if-limit-next.false v.row-is
-      | else-next-row v ↦ went_round c.loop-i.invariant.standing c.word-e.result v.if-next-row.false v.row-is
-    ])
-    c.obey.ensures c.if-not-obey.true 32768 refl,
+      (elim c.if-next-row.branch [
+        | then-next-row+else-limit-next v ↦ went_on c.loop-i.invariant.standing c.word-e.result v.if-limit-next.false v.row-is
+        | else-next-row v ↦ went_round c.loop-i.invariant.standing c.word-e.result v.if-next-row.false v.row-is
+      ])
+      c.obey.ensures c.if-not-obey.true 32768 refl,
   inl refl,
 )
 
@@ -64,7 +64,7 @@ pub loop-i-preserved-else-not-obey : goal.loop-i-preserved-else-not-obey
 loop-i-preserved-else-not-obey c =
     going_obeyed c.requires.0 c.loop-i.invariant c.word-e.result c.loop-i-test.true c.wide-b.ensures c.word-e.ensures
     (elim c.if-next-row.branch [
-        then-next-row+else-limit-next v ↦ went_on c.loop-i.invariant.standing c.word-e.result v.if-limit-next.false v.row-is
+      | then-next-row+else-limit-next v ↦ went_on c.loop-i.invariant.standing c.word-e.result v.if-limit-next.false v.row-is
       | else-next-row v ↦ went_round c.loop-i.invariant.standing c.word-e.result v.if-next-row.false v.row-is
     ])
     c.obey.ensures c.if-not-obey.false

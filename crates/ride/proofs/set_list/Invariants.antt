@@ -6,6 +6,7 @@ use Rattle.card.specs.Decode.{cmds_at}
 use Rattle.run.specs.Carry.{carry}
 use Rattle.ride.specs.Ride.{only_sets}
 use Rattle.ride.proofs.set_list.Given as goal
+
 abbrev pub invariant-loop-to : goal.invariant-loop-to
 invariant-loop-to l = carry (only_sets (cmds_at l.s l.i)) l.place l.initial.bank l.bank ≡ carry (only_sets (cmds_at l.s l.at)) l.place l.initial.bank l.initial.bank
 

@@ -19,7 +19,7 @@ pub tell-requires : goal.tell-requires
 tell-requires c = omega (arith, c.word-at.ensures, c.type_inv.image (256 * c.args.count + c.args.row / 256))
 
 pub returns : goal.returns
-returns c =     c.tell.ensures
+returns c = c.tell.ensures
     ∙ ⊎_elim (λ h. absurd (c.if-row-eq-ASTRAY.false h))
     (λ st. ap (end_at c.args.s.now (regs c.args.bank.now)) (c.word-at.ensures ∙ ap (λ (n : ℕ). get_or c.args.image.now (256 * n + c.args.row / 256) 0) c.requires.0.counted) ∙ ended_here c.args.s.now c.args.image.now c.args.bank.now st)
     c.requires.1

@@ -30,7 +30,7 @@ overflow_add-t c = omega (arith, c.loop-t.invariant.most)
 
 pub loop-t-preserved : goal.loop-t-preserved
 loop-t-preserved c = elim c.if-f-lt64.branch [
-    then-f-lt64 w ↦
+  | then-f-lt64 w ↦
       let fit : SFits w16 (get_or c.args.bank.now c.wide-f.result (pos 0)) = search rules in
       rw (w.out-is, to_z-of_z w16 (get_or c.args.bank.now c.wide-f.result (pos 0)) fit) (filled_held c.loop-t.invariant c.loop-t-test.true _ c.wide-f.ensures w.if-f-lt64.true)
   | else-f-lt64 w ↦ rw w.out-is (filled_absent c.loop-t.invariant c.loop-t-test.true _ c.wide-f.ensures w.if-f-lt64.false)

@@ -2,6 +2,7 @@
 use Prim.Native.Nat.{◌-◌}
 use Rattle.run.proofs.Filling.{Filled}
 use Rattle.run.proofs.fields_at.Given as goal
+
 abbrev pub invariant-loop-t : goal.invariant-loop-t
 invariant-loop-t l = Filled l.s l.at l.bank l.out l.t
 

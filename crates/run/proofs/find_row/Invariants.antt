@@ -5,6 +5,7 @@ use lib.ListN.{length}
 use Rattle.card.specs.Run.{row_for}
 use Rattle.card.specs.Decode.{rows_at}
 use Rattle.run.proofs.find_row.Given as goal
+
 abbrev pub invariant-loop-hi : goal.invariant-loop-hi
 invariant-loop-hi l = row_for (rows_at l.s l.i) l.b ≡ row_for (rows_at l.s l.at) l.b
 

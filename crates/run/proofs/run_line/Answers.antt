@@ -26,11 +26,11 @@ pub apply_list-bank-requires-then-not-alone : goal.apply_list-bank-requires-then
 apply_list-bank-requires-then-not-alone c = omega (arith, c.requires.short)
 
 pub loop-i-preserved-then-not-alone : goal.loop-i-preserved-then-not-alone
-loop-i-preserved-then-not-alone c =     let g = subst (λ (q : ℕ). Riding c.args.s.now c.args.line.now q c.loop-i.bank.r c.loop-i.i) (sym c.wide-q.ensures) c.loop-i.invariant in
+loop-i-preserved-then-not-alone c = let g = subst (λ (q : ℕ). Riding c.args.s.now c.args.line.now q c.loop-i.bank.r c.loop-i.i) (sym c.wide-q.ensures) c.loop-i.invariant in
     riding_next c.requires g _ _ _ c.loop-i-test.true (c.type_inv.line c.loop-i.i).fits c.find_row-row.ensures c.apply_list-bank-then-not-alone.ensures
 
 pub loop-i-preserved : goal.loop-i-preserved
-loop-i-preserved c =     let g = subst (λ (q : ℕ). Riding c.args.s.now c.args.line.now q c.loop-i.bank.r c.loop-i.i) (sym c.wide-q.ensures) c.loop-i.invariant in
+loop-i-preserved c = let g = subst (λ (q : ℕ). Riding c.args.s.now c.args.line.now q c.loop-i.bank.r c.loop-i.i) (sym c.wide-q.ensures) c.loop-i.invariant in
     riding_next c.requires g _ _ _ c.loop-i-test.true (c.type_inv.line c.loop-i.i).fits c.find_row-row.ensures (carry_none _ _ _ _ (c.alone.ensures.none c.if-not-alone.false))
 
 pub returns : goal.returns

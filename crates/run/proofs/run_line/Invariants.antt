@@ -3,6 +3,7 @@ use Prim.Native.Nat.{◌-◌}
 use lib.ListN.{length}
 use Rattle.run.proofs.Riding.{Riding}
 use Rattle.run.proofs.run_line.Given as goal
+
 abbrev pub invariant-loop-i : goal.invariant-loop-i
 invariant-loop-i l = Riding l.s l.line l.sit l.bank.r l.i
 

@@ -20,7 +20,7 @@ pub bounds-s-p : goal.bounds-s-p
 bounds-s-p c = let h = answer_room c.requires.ready {q = c.wide-q.result} (omega (arith, c.run_line-stand.ensures.1, c.wide-q.ensures)) in omega arith
 
 pub returns-then-answer : goal.returns-then-answer
-returns-then-answer c =     c.refusal.ensures
+returns-then-answer c = c.refusal.ensures
     ∙ tells_none c.requires.ready {q = c.wide-q.result} (omega (arith, c.run_line-stand.ensures.1, c.wide-q.ensures)) c.args.line.now
     (ap (λ (q : ℕ). at q c.run_line-stand.result.bank.r) c.wide-q.ensures ∙ c.run_line-stand.ensures.0) c.if-answer.true
 
@@ -31,7 +31,7 @@ pub fields_at-fields-requires : goal.fields_at-fields-requires
 fields_at-fields-requires c = ((eight c.requires.ready {q = c.wide-q.result} (omega (arith, c.run_line-stand.ensures.1, c.wide-q.ensures))).room, search rules)
 
 pub returns : goal.returns
-returns c =     let n : c.wide-q.result < get_or c.args.s.now 4 0 = omega (arith, c.run_line-stand.ensures.1, c.wide-q.ensures) in
+returns c = let n : c.wide-q.result < get_or c.args.s.now 4 0 = omega (arith, c.run_line-stand.ensures.1, c.wide-q.ensures) in
     tells_some c.requires.ready {q = c.wide-q.result} n c.args.line.now
     (ap (λ (q : ℕ). at q c.run_line-stand.result.bank.r) c.wide-q.ensures ∙ c.run_line-stand.ensures.0) c.if-answer.false _
     (told_fields c.run_line-stand.result.bank.r (eight c.requires.ready {q = c.wide-q.result} n) c.fields_at-fields.ensures)

@@ -3,7 +3,6 @@ use borrow.Author.Tests.{}
 use Rattle.ground.specs.Pick.{pick}
 use Rattle.card.specs.Form.{end_form}
 use mathlib.Core.Path.{sym}
-use borrow.Author.Rules.{rules}
 use Rattle.card.proofs.form.ended.Goals as goal
 
 pub returns-then-complete : goal.returns-then-complete

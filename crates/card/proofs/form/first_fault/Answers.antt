@@ -1,7 +1,6 @@
 -- `card::form::first_fault` meets its contract. Assumes nothing.
 use mathlib.Core.Path.{sym, ◌∙◌}
 use Rattle.card.proofs.Formed.{verdict_of, verdict_wrong}
-use borrow.Author.Rules.{rules}
 use Rattle.card.proofs.form.first_fault.Goals as goal
 
 pub returns-in-Counts : goal.returns-in-Counts

@@ -2,7 +2,6 @@
 use mathlib.Core.Path.{sym, ◌∙◌}
 use native.Mathlib.Omega.{arith}
 use Rattle.card.proofs.Formed.{ok_right, ok_wrong}
-use borrow.Author.Rules.{rules}
 use Rattle.card.proofs.form.form_ok.Goals as goal
 
 pub returns-in-Fine : goal.returns-in-Fine

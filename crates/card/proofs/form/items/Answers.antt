@@ -1,10 +1,7 @@
 -- `card::form::items` meets its contract: the invariant is `Passing`. Assumes nothing.
-use Prim.Native.Nat.{◌-◌}
-use mathlib.Core.Path.{◌≡◌, refl, sym, ◌∙◌}
+use mathlib.Core.Path.{refl, sym, ◌∙◌}
 use native.Mathlib.Omega.{arith}
-use borrow.Author.Rules.{rules}
-use lib.ListN.{length}
-use Rattle.card.proofs.Passing.{Passing, pass_begins, pass_moves, pass_on, pass_bad, pass_ends}
+use Rattle.card.proofs.Passing.{pass_begins, pass_moves, pass_on, pass_bad, pass_ends}
 use Rattle.card.proofs.form.items.Goals as goal
 
 pub loop-at-init : goal.loop-at-init

@@ -1,11 +1,10 @@
 -- `card::form::items` meets its contract: the invariant is `Passing`. Assumes nothing.
 use Prim.Native.Nat.{◌-◌}
-use mathlib.Core.Path.{◌≡◌, refl, sym, ◌∙◌}
-use native.Mathlib.Omega.{arith}
-use borrow.Author.Rules.{rules}
+use mathlib.Core.Path.{◌≡◌}
 use lib.ListN.{length}
-use Rattle.card.proofs.Passing.{Passing, pass_begins, pass_moves, pass_on, pass_bad, pass_ends}
+use Rattle.card.proofs.Passing.{Passing}
 use Rattle.card.proofs.form.items.Given as goal
+
 abbrev pub invariant-loop-at : goal.invariant-loop-at
 invariant-loop-at l = Passing l.s l.h l.f l.at × (l.n ≡ length l.s)
 

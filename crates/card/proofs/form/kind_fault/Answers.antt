@@ -3,7 +3,6 @@ use borrow.Author.Tests.{eq-eqb, ne_eqb}
 use Rattle.ground.specs.Pick.{pick}
 use Rattle.card.specs.Form.{kind_fault}
 use mathlib.Core.Path.{sym}
-use borrow.Author.Rules.{rules}
 use Rattle.card.proofs.form.kind_fault.Goals as goal
 
 pub returns-then-begun-eq0 : goal.returns-then-begun-eq0

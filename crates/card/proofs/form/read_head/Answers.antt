@@ -3,7 +3,6 @@ use native.Mathlib.Omega.{arith}
 use borrow.Author.Tests.{eq-eqb, le-leb, le-ltb, lt-leb, lt-ltb, ne_eqb}
 use Rattle.ground.specs.Pick.{pick}
 use Rattle.card.specs.Form.{head_at}
-use borrow.Author.Rules.{rules}
 use Rattle.card.proofs.form.read_head.Goals as goal
 
 pub returns-then-s-le0 : goal.returns-then-s-le0

@@ -4,7 +4,6 @@ use native.Mathlib.Omega.{arith}
 use borrow.Author.Tests.{eq-eqb, le-leb, le-ltb, lt-leb, lt-ltb, ne_eqb}
 use Rattle.ground.specs.Pick.{pick}
 use Rattle.card.specs.Form.{row_step}
-use borrow.Author.Rules.{rules}
 use Rattle.card.proofs.form.row_step.Goals as goal
 
 pub returns-then-s-at-lt4 : goal.returns-then-s-at-lt4

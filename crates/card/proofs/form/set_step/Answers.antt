@@ -4,7 +4,6 @@ use native.Mathlib.Omega.{arith}
 use borrow.Author.Tests.{le-leb, le-ltb, lt-leb, lt-ltb}
 use Rattle.ground.specs.Pick.{pick}
 use Rattle.card.specs.Form.{set_step}
-use borrow.Author.Rules.{rules}
 use Rattle.card.proofs.form.set_step.Goals as goal
 
 pub returns-then-s-at-lt2 : goal.returns-then-s-at-lt2

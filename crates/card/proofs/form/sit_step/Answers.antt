@@ -5,7 +5,6 @@ use borrow.Author.Tests.{le-ltb, lt-ltb}
 use Rattle.ground.specs.Pick.{pick}
 use Rattle.card.specs.Form.{sit_step}
 use mathlib.Core.Path.{sym}
-use borrow.Author.Rules.{rules}
 use Rattle.card.proofs.form.sit_step.Goals as goal
 
 pub returns-then-s-at-lt10 : goal.returns-then-s-at-lt10

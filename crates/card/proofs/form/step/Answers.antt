@@ -1,7 +1,6 @@
 -- `card::form::step` meets its contract: the item of the kind that was read. Assumes nothing.
 use mathlib.Core.Path.{sym, ◌∙◌}
 use Rattle.card.proofs.Allowed.{kind_told, step_bad, step_sit, step_row, step_move, step_set}
-use borrow.Author.Rules.{rules}
 use Rattle.card.proofs.form.step.Goals as goal
 
 pub returns-then-fault-ne0 : goal.returns-then-fault-ne0

@@ -5,6 +5,7 @@ use lib.ListN.{length}
 use Rattle.card.specs.Decode.{cmds_at}
 use Rattle.image.specs.Image.{all_sets}
 use Rattle.image.proofs.sorts.all_sets.Given as goal
+
 abbrev pub invariant-loop-i : goal.invariant-loop-i
 invariant-loop-i l = all_sets (cmds_at l.s l.i) ≡ all_sets (cmds_at l.s l.at)
 

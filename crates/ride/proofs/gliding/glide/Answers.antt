@@ -48,7 +48,7 @@ overflow_add-place-in-loop-place c = omega (arith, c.loop-place-test.true, c.req
 
 pub loop-place-preserved : goal.loop-place-preserved
 loop-place-preserved c = elim c.if-e-row.branch [
-    then-e-row+else-e-ge-LISTED+else-limit-next w ↦
+  | then-e-row+else-e-ge-LISTED+else-limit-next w ↦
       let next = c.loop-place.place + 1 in
       rw w.row-is
       (reached_one c.loop-place.invariant c.word-e.result c.loop-place-test.true c.wide-b.ensures (c.word-e.ensures ∙ column_at c.loop-place.invariant.standing c.wide-b.result (omega (arith, c.wide-b.ensures, c.type_inv.line c.loop-place.place))) refl w.if-limit-next.false w.if-e-ge-LISTED.false

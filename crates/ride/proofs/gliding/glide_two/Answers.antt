@@ -50,7 +50,7 @@ pub hop-next-requires : goal.hop-next-requires
 hop-next-requires c = (c.loop-i.invariant.0.standing.small, omega (arith, c.least-until.ensures, c.loop-i-test.true, c.requires.0.short))
 
 pub returns-then-next-eq-ASTRAY : goal.returns-then-next-eq-ASTRAY
-returns-then-next-eq-ASTRAY c =     rw (c.both_at.ensures.0, c.both_at.ensures.1, left_alone c.loop-i.invariant.0.standing.small c.hop-next.ensures c.if-next-eq-ASTRAY.true)
+returns-then-next-eq-ASTRAY c = rw (c.both_at.ensures.0, c.both_at.ensures.1, left_alone c.loop-i.invariant.0.standing.small c.hop-next.ensures c.if-next-eq-ASTRAY.true)
     c.loop-i.invariant
 
 pub overflow_add-i-in-loop-i : goal.overflow_add-i-in-loop-i
@@ -63,15 +63,14 @@ pub overflow_add-i-then-next2-eq-ASTRAY : goal.overflow_add-i-then-next2-eq-ASTR
 overflow_add-i-then-next2-eq-ASTRAY c = omega (arith, c.least-until.ensures, c.loop-i-test.true, c.requires.0.short)
 
 pub returns-then-next2-eq-ASTRAY : goal.returns-then-next2-eq-ASTRAY
-returns-then-next2-eq-ASTRAY c =     rw (c.both_at-then-next2-eq-ASTRAY.ensures.0, c.both_at-then-next2-eq-ASTRAY.ensures.1, left_alone c.loop-i.invariant.1.standing.small c.hop-next2.ensures c.if-next2-eq-ASTRAY.true)
+returns-then-next2-eq-ASTRAY c = rw (c.both_at-then-next2-eq-ASTRAY.ensures.0, c.both_at-then-next2-eq-ASTRAY.ensures.1, left_alone c.loop-i.invariant.1.standing.small c.hop-next2.ensures c.if-next2-eq-ASTRAY.true)
     (reached_hop c.loop-i.invariant.0 c.word-e.result (omega (arith, c.least-until.ensures, c.loop-i-test.true)) c.wide-b.ensures (c.word-e.ensures ∙ column_at c.loop-i.invariant.0.standing c.wide-b.result (omega (arith, c.wide-b.ensures, c.type_inv.line c.loop-i.i))) c.hop-next.ensures c.if-next-eq-ASTRAY.false, c.loop-i.invariant.1)
 
 pub overflow_add-i-in-loop-i-2 : goal.overflow_add-i-in-loop-i-2
 overflow_add-i-in-loop-i-2 c = omega (arith, c.least-until.ensures, c.loop-i-test.true, c.requires.0.short)
 
 pub loop-i-preserved : goal.loop-i-preserved
-loop-i-preserved c = 
-    (
+loop-i-preserved c = (
   reached_hop c.loop-i.invariant.0 c.word-e.result (omega (arith, c.least-until.ensures, c.loop-i-test.true)) c.wide-b.ensures (c.word-e.ensures ∙ column_at c.loop-i.invariant.0.standing c.wide-b.result (omega (arith, c.wide-b.ensures, c.type_inv.line c.loop-i.i))) c.hop-next.ensures c.if-next-eq-ASTRAY.false,
   reached_hop c.loop-i.invariant.1 c.word-f.result (omega (arith, c.least-until.ensures, c.loop-i-test.true)) c.wide-c.ensures (c.word-f.ensures ∙ column_at c.loop-i.invariant.1.standing c.wide-c.result (omega (arith, c.wide-c.ensures, c.type_inv.other c.loop-i.i))) c.hop-next2.ensures c.if-next2-eq-ASTRAY.false,
 )

@@ -35,7 +35,7 @@ pub loop-t-init : goal.loop-t-init
 loop-t-init c = (omega arith, refl, refl)
 
 pub loop-t-preserved : goal.loop-t-preserved
-loop-t-preserved c =     let fit : SFits w16 (get_or c.args.bank.now c.loop-t.t (pos 0)) = search rules in
+loop-t-preserved c = let fit : SFits w16 (get_or c.args.bank.now c.loop-t.t (pos 0)) = search rules in
     rw (to_z-of_z w16 (get_or c.args.bank.now c.loop-t.t (pos 0)) fit)
     (one_more _ _ _ c.requires c.loop-t-test.true c.loop-t.invariant)
 

@@ -34,10 +34,10 @@ pub loop-to-smaller-in-Move : goal.loop-to-smaller-in-Move
 loop-to-smaller-in-Move c = let f = move_facts _ _ _ _ (sym c.read_cmd-o.ensures ∙ c.in-Move.is) in omega arith
 
 pub loop-to-preserved-in-Move : goal.loop-to-preserved-in-Move
-loop-to-preserved-in-Move c =     let fit : SFits w16 (get_or c.args.old.now c.in-Move.from (pos 0)) = search rules in (
-      rw (to_z-of_z w16 (get_or c.args.old.now c.in-Move.from (pos 0)) fit) (carry_move _ _ _ _ _ _ _ (sym c.read_cmd-o.ensures ∙ c.in-Move.is) ∙ c.loop-to.invariant.0),
-      simp length-set c.loop-to.invariant.1,
-    )
+loop-to-preserved-in-Move c = let fit : SFits w16 (get_or c.args.old.now c.in-Move.from (pos 0)) = search rules in (
+  rw (to_z-of_z w16 (get_or c.args.old.now c.in-Move.from (pos 0)) fit) (carry_move _ _ _ _ _ _ _ (sym c.read_cmd-o.ensures ∙ c.in-Move.is) ∙ c.loop-to.invariant.0),
+  simp length-set c.loop-to.invariant.1,
+)
 
 pub offset_bounds-bank-to-in-Put : goal.offset_bounds-bank-to-in-Put
 offset_bounds-bank-to-in-Put c = let f = put_facts _ _ _ (sym c.read_cmd-o.ensures ∙ c.in-Put.is) in omega arith
@@ -52,8 +52,7 @@ pub loop-to-smaller : goal.loop-to-smaller
 loop-to-smaller c = let f = put_facts _ _ _ (sym c.read_cmd-o.ensures ∙ c.in-Put.is) in omega arith
 
 pub loop-to-preserved : goal.loop-to-preserved
-loop-to-preserved c = 
-    (
+loop-to-preserved c = (
   rw (c.held-v.ensures, to_z-of_z w16 (pos c.args.place) (place_fits c.args.place c.requires.0)) (carry_put _ _ _ _ _ _ (sym c.read_cmd-o.ensures ∙ c.in-Put.is) ∙ c.loop-to.invariant.0),
   simp length-set c.loop-to.invariant.1,
 )

@@ -5,6 +5,7 @@ use lib.ListN.{length}
 use Rattle.card.specs.Decode.{cmds_at}
 use Rattle.run.specs.Carry.{carry}
 use Rattle.run.proofs.lists.move_list.Given as goal
+
 abbrev pub invariant-loop-to : goal.invariant-loop-to
 invariant-loop-to l = (carry (cmds_at l.s l.i) l.place l.old l.bank ≡ carry (cmds_at l.s l.at) l.place l.old l.initial.bank) × (length l.bank ≡ length l.initial.bank)
 

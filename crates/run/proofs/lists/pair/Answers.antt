@@ -32,7 +32,7 @@ pub pair_rest-requires : goal.pair_rest-requires
 pair_rest-requires c = (
   c.requires.0,
   elim c.match-o.branch [
-      in-Put w ↦ let f = put_facts _ _ _ (sym c.read_cmd-o.ensures ∙ w.in-Put.is) in let h = w.to-is in omega arith
+    | in-Put w ↦ let f = put_facts _ _ _ (sym c.read_cmd-o.ensures ∙ w.in-Put.is) in let h = w.to-is in omega arith
     | in-Move w ↦ let f = move_facts _ _ _ _ (sym c.read_cmd-o.ensures ∙ w.in-Move.is) in let h = w.to-is in omega arith
   ],
   c.requires.1,
@@ -40,7 +40,7 @@ pair_rest-requires c = (
 
 pub returns : goal.returns
 returns c = elim c.match-o.branch [
-    in-Put w ↦
+  | in-Put w ↦
       then_put c.args.s.now c.args.at c.args.place c.args.bank.now c.args.bank.now _ (sym c.read_cmd-o.ensures ∙ w.in-Put.is) c.match-o.i c.match-o.to (to_z w16 c.match-o.x-bits) c.pair_rest.ensures w.i-is w.to-is
       (w.x-is ∙ rw c.held-x.ensures (to_z-of_z w16 (pos c.args.place) (place_fits c.args.place c.requires.0)))
   | in-Move w ↦
