@@ -6,10 +6,8 @@ root=$(cd "$(dirname "${BASH_SOURCE[0]}")" && pwd)
 feed=$(realpath "${1:-$root/examples/paper.txt}")
 cd "$root"
 program=target/bin/tagline
-if [ ! -x "$program" ] || [ -n "$(find crates crates.txt -newer "$program" -print -quit)" ]; then
-  echo "tagline: proving and linking, some minutes on first use" >&2
-  log=$(mktemp)
-  rt check tagline >"$log" 2>&1 || { cat "$log" >&2; exit 1; }
-  rm -f "$log"
-fi
+[ -x "$program" ] || echo "tagline: proving and linking, some minutes on first use" >&2
+log=$(mktemp)
+bash tools/link.sh tagline >"$log" 2>&1 || { cat "$log" >&2; exit 1; }
+rm -f "$log"
 exec "$program" <"$feed"

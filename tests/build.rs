@@ -1,4 +1,4 @@
-// Links the proved library: target/staticlib/libexport.a, written by `rt staticlib export`.
+// Links the proved library: target/staticlib/libexport.a, written by `tools/link.sh export`.
 use std::path::Path;
 
 fn main() {

@@ -8,9 +8,6 @@ quietly() {
   "$@" >"$log" 2>&1 </dev/null || { cat "$log" >&2; exit 2; }
 }
 cd "$root"
-archive=target/staticlib/libexport.a
-if [ ! -f "$archive" ] || [ -n "$(find crates crates.txt -newer "$archive" -print -quit)" ]; then
-  quietly rt staticlib export
-fi
+quietly bash tools/link.sh export
 quietly cargo build --quiet --offline --release --manifest-path tests/Cargo.toml --target-dir target/tests
 exec target/tests/release/probe

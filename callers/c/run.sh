@@ -4,7 +4,7 @@
 set -euo pipefail
 cd "$(dirname "${BASH_SOURCE[0]}")/../.."
 archive=target/staticlib/libexport.a
-[ -f "$archive" ] || rt staticlib export >&2
+bash tools/link.sh export
 built=target/callers-c
 mkdir -p "$built"
 for program in card weigh; do

@@ -6,7 +6,7 @@ cd "$(dirname "${BASH_SOURCE[0]}")/../.."
 seconds=${1:-120}
 fuzzer=${FUZZER:-libfuzzer}
 archive=target/staticlib/libexport.a
-[ -f "$archive" ] || rt staticlib export >&2
+bash tools/link.sh export
 built=target/fuzz
 mkdir -p "$built/corpus" "$built/found"
 need() { # need COMMAND PACKAGE..

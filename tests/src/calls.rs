@@ -255,7 +255,7 @@ pub fn tagline(input: &[u8]) -> Vec<u8> {
         .stdin(Stdio::piped())
         .stdout(Stdio::piped())
         .spawn()
-        .unwrap_or_else(|why| panic!("{}: {why}; `rt check tagline` makes it", program.display()));
+        .unwrap_or_else(|why| panic!("{}: {why}; `tools/link.sh tagline` makes it", program.display()));
     let mut to = child.stdin.take().expect("a pipe");
     let text = input.to_vec();
     // the program stops reading after 65,537 bytes, so what is left of a longer input may find no reader
