@@ -14,7 +14,7 @@ use Rattle.paths.proofs.Member.{T_of, of_T}
 use Rattle.card.specs.Table.{Cmd, move, put, Row, row_bytes}
 use Rattle.explore.specs.Lists.{span, position}
 use Rattle.build.specs.Card.{State, need, commands, byte_row, same_cmd, alike, both, ahead, joined}
-use Rattle.build.specs.Writing.{orders_of, row_of, alike_deeds, Does, Wrote, Goes_on, rows_bytes}
+use Rattle.build.specs.Writing.{orders_of, row_of, alike_deeds, Does, Wrote, GoesOn, rows_bytes}
 use Rattle.build.specs.declared.Deed.{Deed}
 use Rattle.build.specs.declared.Open.{Open}
 use Rattle.build.proofs.Writing.{Left, left_all, left_on, left_last}
@@ -108,7 +108,7 @@ module _ (A : Net) (S : List State) (s : State) where
   same_deed b d e h few p q = record { few = few; next = p ∙ h.next; cmds = q ∙ h.cmds }
 
   module _ (o : List ℕ) (q : Open) (b : ℕ) (pos : 0 < b) (was : Does A S s (b - 1) q.deed) where
-    kept : Does A S s b q.deed → Goes_on A S s o o q b q
+    kept : Does A S s b q.deed → GoesOn A S s o o q b q
     kept h =
         record {
           does = h;
@@ -119,7 +119,7 @@ module _ (A : Net) (S : List State) (s : State) where
         }
 
     -- a byte that every record treats as the byte before
-    pub skipped_byte : next A b s ≡ next A (b - 1) s → origins A b s ≡ origins A (b - 1) s → Goes_on A S s o o q b q
+    pub skipped_byte : next A b s ≡ next A (b - 1) s → origins A b s ≡ origins A (b - 1) s → GoesOn A S s o o q b q
     skipped_byte e f =
         kept (record {
           few = was.few;
@@ -128,12 +128,12 @@ module _ (A : Net) (S : List State) (s : State) where
         })
 
     module _ (d : Deed) (h : Does A S s b d) where
-      pub joins : alike_deeds q.deed d ≡ true → Goes_on A S s o o q b q
+      pub joins : alike_deeds q.deed d ≡ true → GoesOn A S s o o q b q
       joins e =
           let a = and_true (eqb q.deed.next d.next) (same_list same_cmd (orders_of q.deed.orders) (orders_of d.orders)) e in
           kept (same_deed b q.deed d h was.few (eqb→eq q.deed.next d.next (T_of a.0)) (cmds_eq (orders_of q.deed.orders) (orders_of d.orders) a.1))
 
-      pub parts : alike_deeds q.deed d ≡ false → (o' : List ℕ) (r : ℕ) → Wrote o o' q.at (row_bytes (row_of q.lo (b - 1) q.deed)) r → r ≤ q.at + 196 → Goes_on A S s o o' q b (record { at = r; lo = b; deed = d })
+      pub parts : alike_deeds q.deed d ≡ false → (o' : List ℕ) (r : ℕ) → Wrote o o' q.at (row_bytes (row_of q.lo (b - 1) q.deed)) r → r ≤ q.at + 196 → GoesOn A S s o o' q b (record { at = r; lo = b; deed = d })
       parts e o' r w m =
           record {
             does = h;
@@ -155,7 +155,7 @@ module _ (A : Net) (S : List State) (s : State) where
       let e : rest_rows (record { at = at; lo = 0; deed = d }) 1 ≡ each row_bytes (joined (map (byte_row A S s) (span 0 256))) = sym (ap (each row_bytes) (rows_cons (byte_row A S s) 0 (omega arith) ∙ ap (λ v. ahead v (joined (map (byte_row A S s) (span 1 255)))) (row_is 0 d h))) in
       subst (λ v. Left o at (each row_bytes (joined (map (byte_row A S s) (span 0 256)))) o at v) (sym e) (left_all o at (each row_bytes (joined (map (byte_row A S s) (span 0 256)))))
 
-  pub rows_on : (o₀ : List ℕ) (at₀ : ℕ) (o o' : List ℕ) (q a : Open) (b : ℕ) → b < 256 → Left o₀ at₀ (rows_bytes A S s) o q.at (rest_rows q b) → Goes_on A S s o o' q b a → Left o₀ at₀ (rows_bytes A S s) o' a.at (rest_rows a (b + 1))
+  pub rows_on : (o₀ : List ℕ) (at₀ : ℕ) (o o' : List ℕ) (q a : Open) (b : ℕ) → b < 256 → Left o₀ at₀ (rows_bytes A S s) o q.at (rest_rows q b) → GoesOn A S s o o' q b a → Left o₀ at₀ (rows_bytes A S s) o' a.at (rest_rows a (b + 1))
   rows_on o₀ at₀ o o' q a b c h g =
       let z : b + 1 - 1 ≡ b = omega arith in
       let X = joined (map (byte_row A S s) (span (b + 1) (256 - (b + 1)))) in
@@ -173,6 +173,6 @@ module _ (A : Net) (S : List State) (s : State) where
   does_again b d h = let z : b ≡ b + 1 - 1 = omega arith in subst (λ v. Does A S s v d) z h
 
   -- what the loop keeps, after byte b
-  pub rows_step : (o₀ : List ℕ) (at₀ : ℕ) (o o' : List ℕ) (q a : Open) (b : ℕ) → b < 256 → q.at + 196 ≤ at₀ + 196 * b → Left o₀ at₀ (rows_bytes A S s) o q.at (rest_rows q b) → Goes_on A S s o o' q b a
+  pub rows_step : (o₀ : List ℕ) (at₀ : ℕ) (o o' : List ℕ) (q a : Open) (b : ℕ) → b < 256 → q.at + 196 ≤ at₀ + 196 * b → Left o₀ at₀ (rows_bytes A S s) o q.at (rest_rows q b) → GoesOn A S s o o' q b a
       → (a.at + 196 ≤ at₀ + 196 * (b + 1)) × (Does A S s (b + 1 - 1) a.deed × Left o₀ at₀ (rows_bytes A S s) o' a.at (rest_rows a (b + 1)))
   rows_step o₀ at₀ o o' q a b c m h g = (omega (arith, g.within), (does_again b a.deed g.does, rows_on o₀ at₀ o o' q a b c h g))

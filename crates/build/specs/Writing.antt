@@ -57,7 +57,7 @@ pub record Given (A : Net) (N : ℕ) (w : List ℕ) (count : ℕ) (s : List ℕ)
   pub leads : (b : ℕ) → b < 256 → Closed A (slots w 0 count) (slot s 0) b
 
 -- after byte b, which joined the open row q or closed it: what has been written, and what is still to be written whatever rows follow
-pub record Goes_on (A : Net) (S : List State) (s : State) (o o' : List ℕ) (q : Open) (b : ℕ) (a : Open) : Type 0 where
+pub record GoesOn (A : Net) (S : List State) (s : State) (o o' : List ℕ) (q : Open) (b : ℕ) (a : Open) : Type 0 where
   pub does : Does A S s b a.deed
   pub within : a.at ≤ q.at + 196
   pub wrote : List ℕ

@@ -12,7 +12,7 @@ ghost use Rattle.explore.specs.Slots.{slot, slots, Fit};
 ghost use Rattle.explore.specs.Keys.{keys_at};
 ghost use Rattle.explore.specs.Explore.{Holds, Kept, Told};
 ghost use Rattle.build.specs.Card.{same_cmd, commands, most, sit_of, card_of};
-ghost use Rattle.build.specs.Writing.{order_of, orders_of, command, row_of, Wrote, Closed, Does, alike_deeds, Given, Goes_on, rows_bytes, sits_bytes, Ends, All, Needs};
+ghost use Rattle.build.specs.Writing.{order_of, orders_of, command, row_of, Wrote, Closed, Does, alike_deeds, Given, GoesOn, rows_bytes, sits_bytes, Ends, All, Needs};
 ghost use Rattle.build.specs.Build.{refusal, Makes, Attempts, Builds};
 
 use answers::{OUT_SMALL, WORK_SMALL};
@@ -226,7 +226,7 @@ fn row_step(
     requires given { Given (net_at file.now offs.now) (length offs.now) work.now count s.now }
     requires b_nonzero { (0 < b) × (q.at + 196 ≤ 8000000) }
     requires does { Does (net_at file.now offs.now) (slots work.now 0 count) (slot s.now 0) (b - 1) q.deed }
-    ensures { Goes_on (net_at file.now offs.now) (slots work.now 0 count) (slot s.now 0) out.old out.new q b result }
+    ensures { GoesOn (net_at file.now offs.now) (slots work.now 0 count) (slot s.now 0) out.old out.new q b result }
 {
     let e = byte_deed(file, offs, work, s, count, b);
     let d = q.deed;

@@ -44,19 +44,19 @@ same_trans a b = record { leads = a.leads ∙ b.leads; does = a.does ∙ b.does 
 
 -- ---- one row for each byte, joined
 
-module _ (f : ℕ → Row) (lo-is : (b : ℕ) → (f b).lo ≡ b) (hi-is : (b : ℕ) → (f b).hi ≡ b) where
+module _ (f : ℕ → Row) (lo_is : (b : ℕ) → (f b).lo ≡ b) (hi_is : (b : ℕ) → (f b).hi ≡ b) where
   -- the first of them does not end before k
   abbrev Reach : ℕ → List Row → Type 0
   Reach k [] = Unit {0}
   Reach k (q ∷ l) = k ≤ q.hi
 
   reach_ahead : (k : ℕ) (J : List Row) → Reach (k + 1) J → Reach k (ahead (f k) J)
-  reach_ahead k [] h = omega (arith, hi-is k)
+  reach_ahead k [] h = omega (arith, hi_is k)
   reach_ahead k (q ∷ l) h = by (alike (f k) q)
     where
       by : (c : Bool) → Reach k (cond c (both (f k) q ∷ l) (f k ∷ q ∷ l))
       by true = omega arith
-      by false = omega (arith, hi-is k)
+      by false = omega (arith, hi_is k)
 
   reach_joined : (k n : ℕ) → Reach k (joined (map f (span k n)))
   unfolding joined span
@@ -68,14 +68,14 @@ module _ (f : ℕ → Row) (lo-is : (b : ℕ) → (f b).lo ≡ b) (hi-is : (b : 
   module _ (R N : ℕ) (good : (b : ℕ) → b < 256 → ((f b).next < N) × Rising R 0 (f b).cmds) where
     up_ahead : (k : ℕ) → k < 256 → (J : List Row) → Upward R N (k + 1) J → Upward R N k (ahead (f k) J)
     up_ahead k h [] u =
-        (lo-is k, omega (arith, lo-is k, hi-is k), omega (arith, hi-is k), (good k h).0, (good k h).1, omega (arith, hi-is k))
+        (lo_is k, omega (arith, lo_is k, hi_is k), omega (arith, hi_is k), (good k h).0, (good k h).1, omega (arith, hi_is k))
     up_ahead k h (q ∷ l) u = by (alike (f k) q)
       where
         by : (c : Bool) → Upward R N k (cond c (both (f k) q ∷ l) (f k ∷ q ∷ l))
-        by true = (lo-is k, omega (arith, lo-is k, u.0, u.1), u.2, (good k h).0, (good k h).1, u.5)
+        by true = (lo_is k, omega (arith, lo_is k, u.0, u.1), u.2, (good k h).0, (good k h).1, u.5)
         by false =
-            let z : k + 1 ≡ suc (f k).hi = omega (arith, hi-is k) in
-            (lo-is k, omega (arith, lo-is k, hi-is k), omega (arith, hi-is k), (good k h).0, (good k h).1, subst (λ v. Upward R N v (q ∷ l)) z u)
+            let z : k + 1 ≡ suc (f k).hi = omega (arith, hi_is k) in
+            (lo_is k, omega (arith, lo_is k, hi_is k), omega (arith, hi_is k), (good k h).0, (good k h).1, subst (λ v. Upward R N v (q ∷ l)) z u)
 
     up_joined : (k n : ℕ) → k + n ≡ 256 → Upward R N k (joined (map f (span k n)))
     unfolding joined span
@@ -89,16 +89,16 @@ module _ (f : ℕ → Row) (lo-is : (b : ℕ) → (f b).lo ≡ b) (hi-is : (b : 
 
   row_here : (k : ℕ) (J : List Row) → Reach (k + 1) J → Same (row_for (ahead (f k) J) k) (f k)
   unfolding row_for
-  row_here k [] h = same_as (pick_le k (f k).hi (f k) no_row (omega (arith, hi-is k)))
+  row_here k [] h = same_as (pick_le k (f k).hi (f k) no_row (omega (arith, hi_is k)))
   row_here k (q ∷ l) h = by (alike (f k) q)
     where
       by : (c : Bool) → Same (row_for (cond c (both (f k) q ∷ l) (f k ∷ q ∷ l)) k) (f k)
       by true = let e = pick_le k q.hi (both (f k) q) (row_for l k) (omega arith) in record { leads = ap (λ r. r.next) e; does = ap (λ r. r.cmds) e }
-      by false = same_as (pick_le k (f k).hi (f k) (row_for (q ∷ l) k) (omega (arith, hi-is k)))
+      by false = same_as (pick_le k (f k).hi (f k) (row_for (q ∷ l) k) (omega (arith, hi_is k)))
 
   row_past : (k b : ℕ) → k < b → (J : List Row) → Same (row_for (ahead (f k) J) b) (row_for J b)
   unfolding row_for pick
-  row_past k b h [] = same_as (pick_not_le b (f k).hi (f k) no_row (omega (arith, hi-is k)))
+  row_past k b h [] = same_as (pick_not_le b (f k).hi (f k) no_row (omega (arith, hi_is k)))
   row_past k b h (q ∷ l) = by (alike (f k) q) refl
     where
       split : (c : Bool) → Same (f k) q → Same (pick c (both (f k) q) (row_for l b)) (pick c q (row_for l b))
@@ -107,7 +107,7 @@ module _ (f : ℕ → Row) (lo-is : (b : ℕ) → (f b).lo ≡ b) (hi-is : (b : 
 
       by : (c : Bool) → alike (f k) q ≡ c → Same (row_for (cond c (both (f k) q ∷ l) (f k ∷ q ∷ l)) b) (row_for (q ∷ l) b)
       by true e = split (leb b q.hi) (alike_same (f k) q e)
-      by false e = same_as (pick_not_le b (f k).hi (f k) (row_for (q ∷ l) b) (omega (arith, hi-is k)))
+      by false e = same_as (pick_not_le b (f k).hi (f k) (row_for (q ∷ l) b) (omega (arith, hi_is k)))
 
   row_joined : (k n b : ℕ) → k ≤ b → b < k + n → Same (row_for (joined (map f (span k n))) b) (f b)
   unfolding joined span

@@ -94,20 +94,20 @@ module _ (k : ℕ) (A : Net) (b : ℕ) (e : Entry) where
   eats_one q a p1 p2 = rw (q, p1, p2)
 
 -- the two ways through `consume`
-module _ {F offs : List ℕ} (w : Formed F offs) (k b : ℕ) (e : Entry) (on : e.on < length offs) (x : ℕ) (lands-on : x ≡ lands (bite b (rec (net_at F offs) e.on))) (M l : List ℕ) (c : ℕ) where
+module _ {F offs : List ℕ} (w : Formed F offs) (k b : ℕ) (e : Entry) (on : e.on < length offs) (x : ℕ) (lands_on : x ≡ lands (bite b (rec (net_at F offs) e.on))) (M l : List ℕ) (c : ℕ) where
   pub ate_none : x ≡ 255 → (m : Marked Tags) → Means M l c m → Means M l c (foldl (marking (tagged k) (net_at F offs) (suc (length (net_at F offs)))) m (on_byte (tagged k) (net_at F offs) b (thread_of e)))
   ate_none z m h =
-      let q = eats_none k (net_at F offs) b e (bite_none (length offs) b x (rec (net_at F offs) e.on) w.few (net_inside w e.on on) lands-on z) in
+      let q = eats_none k (net_at F offs) b e (bite_none (length offs) b x (rec (net_at F offs) e.on) w.few (net_inside w e.on on) lands_on z) in
       rw q h
 
   module _ (z : x ≡ 255 → ⊥) (a : Entry) (p1 : a.on ≡ x) (p2 : a.had ≡ e.had) where
     pub ate_in : a.on < length offs
-    ate_in = rw p1 (bite_some (length offs) b x (rec (net_at F offs) e.on) (net_inside w e.on on) lands-on z).1
+    ate_in = rw p1 (bite_some (length offs) b x (rec (net_at F offs) e.on) (net_inside w e.on on) lands_on z).1
 
     pub ate_one : (M1 l1 : List ℕ) (c1 : ℕ) → ((m : Marked Tags) → Means M l c m → Means M1 l1 c1 (marking (tagged k) (net_at F offs) (length offs + 1) m (thread_of a)))
         → (m : Marked Tags) → Means M l c m → Means M1 l1 c1 (foldl (marking (tagged k) (net_at F offs) (suc (length (net_at F offs)))) m (on_byte (tagged k) (net_at F offs) b (thread_of e)))
     ate_one M1 l1 c1 ih m h =
-        let q = eats_one k (net_at F offs) b e (bite_some (length offs) b x (rec (net_at F offs) e.on) (net_inside w e.on on) lands-on z).0 a p1 p2 in
+        let q = eats_one k (net_at F offs) b e (bite_some (length offs) b x (rec (net_at F offs) e.on) (net_inside w e.on on) lands_on z).0 a p1 p2 in
         let n : suc (length (net_at F offs)) ≡ length offs + 1 = omega (arith, net_length F offs) in
         rw (q, n) (ih m h)
 

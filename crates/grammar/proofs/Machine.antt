@@ -7,7 +7,7 @@ use native.Mathlib.Omega.{arith}
 use lib.Dec.{eqb}
 use borrow.Author.Tests.{ne_eqb}
 use Rattle.ground.specs.Pick.{pick}
-use Rattle.pattern.specs.Sets.{Step, fresh, ready, held, quote, dash, dash-quote, name, shut, bad, set_on}
+use Rattle.pattern.specs.Sets.{Step, fresh, ready, held, quote, dash, dash_quote, name, shut, bad, set_on}
 use Rattle.pattern.specs.Reader.{stops, repeating, barred, is_tag}
 use Rattle.pattern.specs.Grammar.{Ordinary}
 use Rattle.ground.proofs.Tests.{either_no, no_either}
@@ -41,7 +41,7 @@ into k ready = inset k ready
 into k (held c) = inset k (held c)
 into k quote = inset k quote
 into k (dash c) = inset k (dash c)
-into k (dash-quote c) = inset k (dash-quote c)
+into k (dash_quote c) = inset k (dash_quote c)
 into k (name w) = inset k (name w)
 into k shut = at k true
 into k bad = dead
@@ -168,7 +168,7 @@ into_going k ready g = refl
 into_going k (held c) g = refl
 into_going k quote g = refl
 into_going k (dash c) g = refl
-into_going k (dash-quote c) g = refl
+into_going k (dash_quote c) g = refl
 into_going k (name w) g = refl
 into_going k shut g = absurd g
 into_going k bad g = absurd g

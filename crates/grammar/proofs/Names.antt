@@ -13,7 +13,7 @@ use Rattle.ground.proofs.Tested.{tested_below}
 use Rattle.ground.specs.Lists.{Bytes}
 use Rattle.ground.proofs.Tests.{true_false, T_true}
 use Rattle.ground.proofs.Every.{small, bytes_of}
-use Rattle.pattern.specs.Sets.{Item, span, class, Step, fresh, ready, held, quote, dash, dash-quote, name, shut, bad, set_on, gained, Named, whole, begun, none, names, word_of, against, or_else, seek}
+use Rattle.pattern.specs.Sets.{Item, span, class, Step, fresh, ready, held, quote, dash, dash_quote, name, shut, bad, set_on, gained, Named, whole, begun, none, names, word_of, against, or_else, seek}
 use Rattle.grammar.proofs.SetRun.{set_run, got}
 
 -- A word of a class leads from its `[` to a complete item, that class. Twelve words, each computed.
@@ -23,7 +23,7 @@ is_ready ready = true
 is_ready (held c) = false
 is_ready quote = false
 is_ready (dash c) = false
-is_ready (dash-quote c) = false
+is_ready (dash_quote c) = false
 is_ready (name w) = false
 is_ready shut = false
 is_ready bad = false
@@ -34,7 +34,7 @@ ready_of ready e = refl
 ready_of (held c) e = absurd (true_false (sym e))
 ready_of quote e = absurd (true_false (sym e))
 ready_of (dash c) e = absurd (true_false (sym e))
-ready_of (dash-quote c) e = absurd (true_false (sym e))
+ready_of (dash_quote c) e = absurd (true_false (sym e))
 ready_of (name w) e = absurd (true_false (sym e))
 ready_of shut e = absurd (true_false (sym e))
 ready_of bad e = absurd (true_false (sym e))

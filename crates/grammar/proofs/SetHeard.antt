@@ -12,7 +12,7 @@ use Rattle.ground.specs.Lists.{Bytes}
 use Rattle.ground.proofs.Tests.{either_no, no_either}
 use Rattle.ground.proofs.Every.{bytes_back}
 use Rattle.pattern.specs.Tests.{among}
-use Rattle.pattern.specs.Sets.{Item, span, class, Step, fresh, ready, held, quote, dash, dash-quote, name, shut, bad, item, ends, upto, after_name, class_of, set_on, gained, Named, whole, begun, none, names, seek}
+use Rattle.pattern.specs.Sets.{Item, span, class, Step, fresh, ready, held, quote, dash, dash_quote, name, shut, bad, item, ends, upto, after_name, class_of, set_on, gained, Named, whole, begun, none, names, seek}
 use Rattle.pattern.specs.Grammar.{CharSpells, itself, quoted, ItemSpells, char, chars, named, ItemsSpell, last_item, more_items}
 use Rattle.grammar.proofs.SetRun.{set_run, got, set_run_append, Going}
 use Rattle.grammar.proofs.SetSpelled.{shuts}
@@ -38,7 +38,7 @@ Sofar u ready xs = ItemsSpell u xs
 Sofar u (held c) xs = (z v : List ℕ) × (u ≡ z ++ v) × Many z xs × CharSpells v c
 Sofar u quote xs = (z : List ℕ) × (u ≡ z ++ 92 ∷ []) × Many z xs
 Sofar u (dash c) xs = (z v : List ℕ) × (u ≡ z ++ (v ++ 45 ∷ [])) × Many z xs × CharSpells v c
-Sofar u (dash-quote c) xs = (z v : List ℕ) × (u ≡ z ++ (v ++ 45 ∷ 92 ∷ [])) × Many z xs × CharSpells v c
+Sofar u (dash_quote c) xs = (z v : List ℕ) × (u ≡ z ++ (v ++ 45 ∷ 92 ∷ [])) × Many z xs × CharSpells v c
 Sofar u (name w) xs = (z : List ℕ) × (u ≡ z ++ 91 ∷ w) × Many z xs × (set_run (name []) w ≡ name w) × (seek w names 0 ≡ begun)
 Sofar u shut xs = (z : List ℕ) × (u ≡ z ++ 93 ∷ []) × ItemsSpell z xs
 Sofar u bad xs = Unit {0}
@@ -83,13 +83,13 @@ module _ (u : List ℕ) (c : ℕ) (small : c < 256) where
   unfolding set_on gained
   dash_on a xs h = by (eqb c 92) (among c (91 ∷ 93 ∷ 45 ∷ 94 ∷ [])) refl refl
     where
-      by : (x y : Bool) → eqb c 92 ≡ x → among c (91 ∷ 93 ∷ 45 ∷ 94 ∷ []) ≡ y → Sofar (u ++ c ∷ []) (pick (eqb c 92) (dash-quote a) (pick (among c (91 ∷ 93 ∷ 45 ∷ 94 ∷ [])) bad (upto a c))) (xs ++ pick (eqb c 92) [] (span a c ∷ []))
+      by : (x y : Bool) → eqb c 92 ≡ x → among c (91 ∷ 93 ∷ 45 ∷ 94 ∷ []) ≡ y → Sofar (u ++ c ∷ []) (pick (eqb c 92) (dash_quote a) (pick (among c (91 ∷ 93 ∷ 45 ∷ 94 ∷ [])) bad (upto a c))) (xs ++ pick (eqb c 92) [] (span a c ∷ []))
       by true y s t =
-          rw (picked (dash-quote a) (pick (among c (91 ∷ 93 ∷ 45 ∷ 94 ∷ [])) bad (upto a c)) s, picked [] (span a c ∷ []) s, append-nil xs)
+          rw (picked (dash_quote a) (pick (among c (91 ∷ 93 ∷ 45 ∷ 94 ∷ [])) bad (upto a c)) s, picked [] (span a c ∷ []) s, append-nil xs)
           (h.0, h.1, ap (λ n. u ++ n ∷ []) (eqb-true c 92 s) ∙ snoc u h.0 (h.1 ++ 45 ∷ []) 92 h.2 ∙ ap (λ l. h.0 ++ l) (append_assoc h.1 (45 ∷ []) (92 ∷ [])), h.3, h.4)
-      by false true s t = rw (passed (dash-quote a) (pick (among c (91 ∷ 93 ∷ 45 ∷ 94 ∷ [])) bad (upto a c)) s, picked bad (upto a c) t) tt
+      by false true s t = rw (passed (dash_quote a) (pick (among c (91 ∷ 93 ∷ 45 ∷ 94 ∷ [])) bad (upto a c)) s, picked bad (upto a c) t) tt
       by false false s t =
-          rw (passed (dash-quote a) (pick (among c (91 ∷ 93 ∷ 45 ∷ 94 ∷ [])) bad (upto a c)) s, passed bad (upto a c) t, passed [] (span a c ∷ []) s)
+          rw (passed (dash_quote a) (pick (among c (91 ∷ 93 ∷ 45 ∷ 94 ∷ [])) bad (upto a c)) s, passed bad (upto a c) t, passed [] (span a c ∷ []) s)
           (upto_on a xs (λ l. subst (λ (z : List ℕ). ItemsSpell z (xs ++ span a c ∷ [])) (sym (snoc u h.0 (h.1 ++ 45 ∷ []) c h.2 ∙ ap (λ l. h.0 ++ l) (append_assoc h.1 (45 ∷ []) (c ∷ []))))
           (many_more h.3 (chars h.4 (itself (record { byte = small; plain = let f = either_no (eqb c 91) _ t in let g = either_no (eqb c 93) _ f.1 in no_either (eqb c 91) _ f.0 (no_either (eqb c 93) _ g.0 (no_either (eqb c 92) _ s g.1)) })) l))))
 
@@ -117,7 +117,7 @@ module _ (u : List ℕ) (c : ℕ) (small : c < 256) where
   sofar_on (held a) xs h = held_on a xs h
   sofar_on quote xs h = (h.0, 92 ∷ c ∷ [], snoc u h.0 (92 ∷ []) c h.1, subst (Many h.0) (sym (append-nil xs)) h.2, quoted small)
   sofar_on (dash a) xs h = dash_on a xs h
-  sofar_on (dash-quote a) xs h =
+  sofar_on (dash_quote a) xs h =
       upto_on a xs (λ l. subst (λ (z : List ℕ). ItemsSpell z (xs ++ span a c ∷ [])) (sym (snoc u h.0 (h.1 ++ 45 ∷ 92 ∷ []) c h.2 ∙ ap (λ l. h.0 ++ l) (append_assoc h.1 (45 ∷ 92 ∷ []) (c ∷ []))))
       (many_more h.3 (chars h.4 (quoted small) l)))
   sofar_on (name w) xs h = name_on w xs h
@@ -152,7 +152,7 @@ completed ready u xs g h = complete_ready ready [] tt refl
 completed (held c) u xs g h = record { word = []; bytes = tt; going = tt; shuts = refl }
 completed quote u xs g h = record { word = 97 ∷ []; bytes = (omega arith, tt); going = tt; shuts = refl }
 completed (dash c) u xs g h = complete_ready (dash c) (92 ∷ c ∷ []) (omega arith, (char_byte h.4, tt)) (passed bad ready (le-ltb c c (omega arith)))
-completed (dash-quote c) u xs g h = complete_ready (dash-quote c) (c ∷ []) (char_byte h.4, tt) (passed bad ready (le-ltb c c (omega arith)))
+completed (dash_quote c) u xs g h = complete_ready (dash_quote c) (c ∷ []) (char_byte h.4, tt) (passed bad ready (le-ltb c c (omega arith)))
 completed (name w) u xs g h =
     let r = seek_begun w h.4 in
     complete_ready (name w) r.2.0 (bytes_back w r.2.0 (subst Bytes (sym r.2.1) (word_bytes r.0 r.1)))

@@ -4,7 +4,7 @@ use mathlib.Core.Path.{◌≡◌, refl, sym, ap, subst, ◌∙◌}
 use mathlib.Core.List.{List, [], ◌∷◌, ◌++◌, append_assoc, append-nil}
 use native.Mathlib.Omega.{arith}
 use lib.ListN.{length}
-use Rattle.pattern.specs.Sets.{Item, Step, fresh, ready, held, quote, dash, dash-quote, name, shut, bad, set_on, gained, Scanned, listing, wrong, onward, scan}
+use Rattle.pattern.specs.Sets.{Item, Step, fresh, ready, held, quote, dash, dash_quote, name, shut, bad, set_on, gained, Scanned, listing, wrong, onward, scan}
 
 abbrev pub set_run : Step → List ℕ → Step
 set_run st [] = st
@@ -29,7 +29,7 @@ Going ready = Unit {0}
 Going (held c) = Unit {0}
 Going quote = Unit {0}
 Going (dash c) = Unit {0}
-Going (dash-quote c) = Unit {0}
+Going (dash_quote c) = Unit {0}
 Going (name w) = Unit {0}
 Going shut = ⊥
 Going bad = ⊥
@@ -52,7 +52,7 @@ going_first ready v g = tt
 going_first (held c) v g = tt
 going_first quote v g = tt
 going_first (dash c) v g = tt
-going_first (dash-quote c) v g = tt
+going_first (dash_quote c) v g = tt
 going_first (name w) v g = tt
 going_first shut v g = run_shut v g
 going_first bad v g = subst Going (run_bad v) g
@@ -63,7 +63,7 @@ onward_going ready f i xs g = refl
 onward_going (held c) f i xs g = refl
 onward_going quote f i xs g = refl
 onward_going (dash c) f i xs g = refl
-onward_going (dash-quote c) f i xs g = refl
+onward_going (dash_quote c) f i xs g = refl
 onward_going (name w) f i xs g = refl
 onward_going shut f i xs g = absurd g
 onward_going bad f i xs g = absurd g
@@ -147,7 +147,7 @@ first_step c w i st xs g ih st' e = by st' e
     by (held a) h = on (held a) h tt
     by quote h = on quote h tt
     by (dash a) h = on (dash a) h tt
-    by (dash-quote a) h = on (dash-quote a) h tt
+    by (dash_quote a) h = on (dash_quote a) h tt
     by (name v) h = on (name v) h tt
 
 pub follow : (w : List ℕ) (i : ℕ) (st : Step) (xs : List Item) → Going st → Follow w i st xs (scan w i st xs)

@@ -9,7 +9,7 @@ use borrow.Author.Tests.{le-ltb}
 use Rattle.ground.specs.Pick.{pick}
 use Rattle.ground.proofs.Picks.{picked, passed}
 use Rattle.pattern.specs.Tests.{among}
-use Rattle.pattern.specs.Sets.{Item, span, Step, fresh, ready, held, quote, dash, dash-quote, name, shut, bad, item, ends, upto, set_on, gained, names, word_of, listing, scan}
+use Rattle.pattern.specs.Sets.{Item, span, Step, fresh, ready, held, quote, dash, dash_quote, name, shut, bad, item, ends, upto, set_on, gained, names, word_of, listing, scan}
 use Rattle.pattern.specs.Grammar.{Plain, CharSpells, itself, quoted, ItemSpells, char, chars, named, ItemsSpell, last_item, more_items}
 use Rattle.ground.proofs.Tests.{either_no, no_either}
 use Rattle.grammar.proofs.SetRun.{set_run, got, set_run_append, got_append, Going, scan_shut}
@@ -22,7 +22,7 @@ Between ready = Unit {0}
 Between (held c) = Unit {0}
 Between quote = ⊥
 Between (dash c) = ⊥
-Between (dash-quote c) = ⊥
+Between (dash_quote c) = ⊥
 Between (name w) = ⊥
 Between shut = ⊥
 Between bad = ⊥
@@ -34,7 +34,7 @@ Some ready = Unit {0}
 Some (held c) = Unit {0}
 Some quote = ⊥
 Some (dash c) = ⊥
-Some (dash-quote c) = ⊥
+Some (dash_quote c) = ⊥
 Some (name w) = ⊥
 Some shut = ⊥
 Some bad = ⊥
@@ -46,7 +46,7 @@ pending ready = []
 pending (held c) = span c c ∷ []
 pending quote = []
 pending (dash c) = []
-pending (dash-quote c) = []
+pending (dash_quote c) = []
 pending (name w) = []
 pending shut = []
 pending bad = []
@@ -57,7 +57,7 @@ some_between ready s = tt
 some_between (held c) s = tt
 some_between quote s = s
 some_between (dash c) s = s
-some_between (dash-quote c) s = s
+some_between (dash_quote c) s = s
 some_between (name w) s = s
 some_between shut s = s
 some_between bad s = s
@@ -68,7 +68,7 @@ some_going ready s = tt
 some_going (held c) s = tt
 some_going quote s = tt
 some_going (dash c) s = tt
-some_going (dash-quote c) s = tt
+some_going (dash_quote c) s = tt
 some_going (name w) s = tt
 some_going shut s = s
 some_going bad s = s
@@ -81,7 +81,7 @@ item_begins ready c b x y = (passed shut (item c) y, refl)
 item_begins (held a) c b x y = (passed (dash a) (ends c) x ∙ passed shut (item c) y, passed [] (span a a ∷ []) x)
 item_begins quote c b x y = absurd b
 item_begins (dash a) c b x y = absurd b
-item_begins (dash-quote a) c b x y = absurd b
+item_begins (dash_quote a) c b x y = absurd b
 item_begins (name w) c b x y = absurd b
 item_begins shut c b x y = absurd b
 item_begins bad c b x y = absurd b
@@ -127,13 +127,13 @@ end_run : (c : ℕ) {w : List ℕ} {d : ℕ} → CharSpells w d → c ≤ d → 
 unfolding set_on gained
 end_run c (itself {c = d} p) h =
     let t = tame d p in (
-      passed (dash-quote c) (pick (among d (91 ∷ 93 ∷ 45 ∷ 94 ∷ [])) bad (upto c d)) t.no_quote
+      passed (dash_quote c) (pick (among d (91 ∷ 93 ∷ 45 ∷ 94 ∷ [])) bad (upto c d)) t.no_quote
           ∙ passed bad (upto c d) (no_either (eqb d 91) _ t.no_open (no_either (eqb d 93) _ t.no_close (no_either (eqb d 45) _ t.no_dash (no_either (eqb d 94) _ t.no_caret refl))))
           ∙ passed bad ready (le-ltb d c h),
       append-nil _ ∙ passed [] (span c d ∷ []) t.no_quote,
     )
 end_run c (quoted {c = d} g) h =
-    let q : set_on (dash c) 92 ≡ dash-quote c = picked (dash-quote c) _ refl in (
+    let q : set_on (dash c) 92 ≡ dash_quote c = picked (dash_quote c) _ refl in (
       ap (λ s. set_on s d) q ∙ passed bad ready (le-ltb d c h),
       ap (λ s. gained (dash c) 92 ++ (gained s d ++ [])) q ∙ ap (λ l. l ++ span c d ∷ []) (picked [] (span c 92 ∷ []) refl),
     )
@@ -192,7 +192,7 @@ shuts ready s = (refl, refl)
 shuts (held c) s = (refl, refl)
 shuts quote s = absurd s
 shuts (dash c) s = absurd s
-shuts (dash-quote c) s = absurd s
+shuts (dash_quote c) s = absurd s
 shuts (name w) s = absurd s
 shuts shut s = absurd s
 shuts bad s = absurd s

@@ -118,9 +118,9 @@ module _
     (t : Table) (M : ℕ → ℕ → Type 0)
     (first : (r : ℕ) → r < 64 → Free r t.start → M 0 r)
     (closed : (q b r : ℕ) → b < 256 → M q r → Free r (row_in t q b).cmds → M (row_in t q b).next r)
-    (quiet-start : (r : ℕ) → Reads r t.start → ⊥)
+    (quiet_start : (r : ℕ) → Reads r t.start → ⊥)
     (quiet_row : (q b r : ℕ) → b < 256 → M q r → Reads r (row_in t q b).cmds → ⊥)
-    (quiet-end : (q r : ℕ) → M q r → In r (sit t q).fields → (r ≡ 255 → ⊥) → ⊥) where
+    (quiet_end : (q r : ℕ) → M q r → In r (sit t q).fields → (r ≡ 255 → ⊥) → ⊥) where
   abbrev Good : State → Type 0
   Good (at q bank) = (r : ℕ) → Empty (reg bank r) → M q r
   Good lost = ⊥
@@ -133,7 +133,7 @@ module _
       go (ok bank) e = λ r h.
           let l = left_empty t.start 0 _ _ bank e r h in
           first r (fresh 64 r l.1) l.0
-      go stuck e = let s = stuck_reads t.start 0 _ _ e in quiet-start s.0 s.1
+      go stuck e = let s = stuck_reads t.start 0 _ _ e in quiet_start s.0 s.1
 
   good_step : (s : State) (p b : ℕ) → b < 256 → Good s → Good (step t s p b)
   unfolding step
@@ -157,7 +157,7 @@ module _
   unfolding EndRead
   good_ends lost g x = g
   good_ends (at q bank) g (inl e) = at_lost e
-  good_ends (at q bank) g (inr e) = quiet-end q e.0 (g e.0 e.1.1.1) e.1.0 e.1.1.0
+  good_ends (at q bank) g (inr e) = quiet_end q e.0 (g e.0 e.1.1.1) e.1.0 e.1.1.0
 
   pub never_stuck : EmptyRead t → ⊥
   never_stuck e = good_ends _ (good_run e.0 (begun t) 0 e.1.0.0 good_begun) e.1.1

@@ -60,7 +60,7 @@ threads_snoc f A [] b ss = refl
 threads_snoc f A (c ∷ w) b ss = threads_snoc f A w b (each (on_byte f A c) (close f A ss))
 
 -- ms is a path that consumes the byte b and then nothing, on from the earliest path to a record
-pub record Goes_on (A : Net) (w : List ℕ) (b : ℕ) (ms : List Move) : Type 0 where
+pub record GoesOn (A : Net) (w : List ℕ) (b : ℕ) (ms : List Move) : Type 0 where
   pub before : List Move
   pub on : ℕ
   pub best : Best A w before on
@@ -82,7 +82,7 @@ module _ (A : Net) (w : List ℕ) (b : ℕ) where
       ∙ ap (λ l. standing A l) (threads_snoc onto A w b start)
       ∙ ap (λ l. standing A (close onto A l)) (sym (byte_standing A onto b (threads onto A w start)) ∙ ap (λ l. each (on_byte onto A b) l) (sym (trails_threads A w)))
 
-  goes_on : (t : Trail) → Memᴰ t (trails A (w ++ (b ∷ []))) → Goes_on A w b t.had
+  goes_on : (t : Trail) → Memᴰ t (trails A (w ++ (b ∷ []))) → GoesOn A w b t.had
   unfolding bitten on_byte
   goes_on t m =
       let c = each_cases (paths (on_quiet onto A) (suc (length A)) []) bitten (of (firsts_in (each (paths (on_quiet onto A) (suc (length A)) []) bitten) [] (subst (λ l. Memᴰ t l) (closing onto A bitten).found (standing_in A (close onto A bitten) (rw trails_snoc at m)).0))) in
@@ -103,5 +103,5 @@ module _ (A : Net) (w : List ℕ) (b : ℕ) where
       of (inl k) = absurd (elim k [ ])
       of (inr k) = k
 
-  pub best_goes_on : (ms : List Move) (r : ℕ) → Best A (w ++ (b ∷ [])) ms r → Goes_on A w b ms
+  pub best_goes_on : (ms : List Move) (r : ℕ) → Best A (w ++ (b ∷ [])) ms r → GoesOn A w b ms
   best_goes_on ms r x = goes_on (record { on = r; had = ms }) (best_listed A (w ++ (b ∷ [])) (trails A (w ++ (b ∷ []))) (trails_right A (w ++ (b ∷ []))) x)

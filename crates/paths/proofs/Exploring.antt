@@ -27,17 +27,17 @@ upto_suc B (suc n) =
     ap (λ l. l ++ words B (suc (suc n))) (upto_suc B n)
     ∙ ap (λ l. [] ∷ l) (sym (each_append (λ w. map (λ b. w ++ (b ∷ [])) B) (upto B n) (words B (suc n))))
 
-module _ {S : Type 0} (eq : S → S → Bool) (eq-right : (s t : S) → (eq s t ≡ true → s ≡ t) × (s ≡ t → eq s t ≡ true)) where
+module _ {S : Type 0} (eq : S → S → Bool) (eq_right : (s t : S) → (eq s t ≡ true → s ≡ t) × (s ≡ t → eq s t ≡ true)) where
   among→mem : (s : S) (l : List S) → among eq s l ≡ true → Memᴰ s l
   among→mem s [] e = let z : ◌≡◌ {A = ℕ} 0 1 = cc in absurd (omega arith)
   among→mem s (t ∷ l) e = by (λ f. among→mem s l f) (eq s t) refl e
     where
       by : (among eq s l ≡ true → Memᴰ s l) → (c : Bool) → eq s t ≡ c → c || among eq s l ≡ true → Memᴰ s (t ∷ l)
-      by ih true p q = Memᴰ.head ((eq-right s t).0 p)
+      by ih true p q = Memᴰ.head ((eq_right s t).0 p)
       by ih false p q = Memᴰ.tail (ih q)
 
   mem→among : {s : S} {l : List S} → Memᴰ s l → among eq s l ≡ true
-  mem→among {s} (Memᴰ.head {x = x} e) = rw ((eq-right s x).1 e)
+  mem→among {s} (Memᴰ.head {x = x} e) = rw ((eq_right s x).1 e)
   mem→among {s} (Memᴰ.tail {x = x} {xs = xs} m) = by (eq s x) (mem→among m)
     where
       by : (c : Bool) → among eq s xs ≡ true → c || among eq s xs ≡ true
@@ -70,13 +70,13 @@ module _ {S : Type 0} (eq : S → S → Bool) (eq-right : (s t : S) → (eq s t 
 
   -- ---- the numbering, and the exploring
 
-  module _ (B : List ℕ) (next : ℕ → S → S) (sit : List ℕ → S) (sit-next : (w : List ℕ) (b : ℕ) → sit (w ++ (b ∷ [])) ≡ next b (sit w)) where
+  module _ (B : List ℕ) (next : ℕ → S → S) (sit : List ℕ → S) (sit_next : (w : List ℕ) (b : ℕ) → sit (w ++ (b ∷ [])) ≡ next b (sit w)) where
     abbrev g : S → List S
     g s = nexts eq B next s
 
     on_word : (w : List ℕ) (C : List ℕ) → map sit (map (λ b. w ++ (b ∷ [])) C) ≡ map (λ b. next b (sit w)) C
     on_word w [] = refl
-    on_word w (b ∷ C) = rw (sit-next w b, on_word w C)
+    on_word w (b ∷ C) = rw (sit_next w b, on_word w C)
 
     on_words : (l : List (List ℕ)) → map sit (each (λ w. map (λ b. w ++ (b ∷ [])) B) l) ≡ each g (map sit l)
     on_words [] = refl

@@ -62,7 +62,7 @@ module _ (A : Net) where
   situation_one w l x = best.situation_one A w l (trails A w) x (meaning.trails_right A w)
 
   -- the earliest path after one more byte goes on from the earliest path, before that byte, to the record that consumes it
-  pub prefix_best : (w : List ℕ) (b : ℕ) (ms : List Move) (r : ℕ) → Best A (w ++ (b ∷ [])) ms r → best.Goes_on A w b ms
+  pub prefix_best : (w : List ℕ) (b : ℕ) (ms : List Move) (r : ℕ) → Best A (w ++ (b ∷ [])) ms r → best.GoesOn A w b ms
   prefix_best w b ms r x = best.best_goes_on A w b ms r x
 
   -- the situation as it is computed is the situation as it is defined
@@ -224,21 +224,21 @@ module _ (A : Net) where
   pub refused_exactly : (r : ℕ) → (r ≡ 0 → (n : ℕ) × Closes A n) → (r ≡ 10 → Stops A TooManyRegisters) → (r ≡ 11 → Stops A TooManySituations)
       → ((r ≡ 0 → ⊥) → (r ≡ 10 → ⊥) → r ≡ 11)
       → ((r ≡ 10) ↔ OverRegisters A) × (((r ≡ 11) ↔ (OverSituations A × (¬ OverRegisters A))) × ((r ≡ 0) ↔ ((¬ OverRegisters A) × (¬ OverSituations A))))
-  refused_exactly r zero-closes ten eleven one_of_lem = (
+  refused_exactly r zero_closes ten eleven one_of_lem = (
     (λ e. limits.stop_registers A (ten e), λ o. is_ten o (equal_or_not r 0) (equal_or_not r 10)),
     (
       (λ e. limits.stop_situations A (eleven e), λ o. is_eleven o (equal_or_not r 0) (equal_or_not r 10)),
-      (λ e. let c = (zero-closes e).1 in (limits.closes_registers A c, limits.closes_situations A c), λ o. is_zero o (equal_or_not r 0) (equal_or_not r 10)),
+      (λ e. let c = (zero_closes e).1 in (limits.closes_registers A c, limits.closes_situations A c), λ o. is_zero o (equal_or_not r 0) (equal_or_not r 10)),
     ),
   )
     where
       is_ten : OverRegisters A → (r ≡ 0) ⊎ (¬ (r ≡ 0)) → (r ≡ 10) ⊎ (¬ (r ≡ 10)) → r ≡ 10
-      is_ten o (inl e) q = absurd (limits.closes_registers A (zero-closes e).1 o)
+      is_ten o (inl e) q = absurd (limits.closes_registers A (zero_closes e).1 o)
       is_ten o (inr e) (inl q) = q
       is_ten o (inr e) (inr q) = absurd ((limits.stop_situations A (eleven (one_of_lem e q))).1 o)
 
       is_eleven : OverSituations A × (¬ OverRegisters A) → (r ≡ 0) ⊎ (¬ (r ≡ 0)) → (r ≡ 10) ⊎ (¬ (r ≡ 10)) → r ≡ 11
-      is_eleven o (inl e) q = absurd (limits.closes_situations A (zero-closes e).1 o.0)
+      is_eleven o (inl e) q = absurd (limits.closes_situations A (zero_closes e).1 o.0)
       is_eleven o (inr e) (inl q) = absurd (o.1 (limits.stop_registers A (ten q)))
       is_eleven o (inr e) (inr q) = one_of_lem e q
 

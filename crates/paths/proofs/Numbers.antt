@@ -58,9 +58,9 @@ held_renamed σ (s ∷ l) = rw (holds_renamed σ 0 s.had, held_renamed σ l) (sy
 
 -- ---- a renaming that tells the keys apart changes no register number
 
-module _ (σ : ℕ → ℕ → ℕ) (U : List Key) (ap-U : Apart σ U) where
+module _ (σ : ℕ → ℕ → ℕ) (U : List Key) (ap_U : Apart σ U) where
   is_hat : (k j : Key) → Memᴰ k U → Memᴰ j U → is (hat σ k) (hat σ j) ≡ is k j
-  is_hat k j m n = agree (is (hat σ k) (hat σ j)) (is k j) (λ e. eq→is (ap-U k j m n (is→eq (hat σ k) (hat σ j) e))) (λ e. eq→is (ap (hat σ) (is→eq k j e)))
+  is_hat k j m n = agree (is (hat σ k) (hat σ j)) (is k j) (λ e. eq→is (ap_U k j m n (is→eq (hat σ k) (hat σ j) e))) (λ e. eq→is (ap (hat σ) (is→eq k j e)))
 
   index_hat : (k : Key) (ks : List Key) → Memᴰ k U → ((j : Key) → Memᴰ j ks → Memᴰ j U) → index (hat σ k) (map (hat σ) ks) ≡ index k ks
   index_hat k [] m h = refl
@@ -115,12 +115,12 @@ by_key =
     rest k ks h (inl e) = absurd (h (known→mem k ks e))
     rest k ks h (inr e) = rw e
 
-module _ (σ : ℕ → ℕ → ℕ) (U : List Key) (ap-U : Apart σ U) where
+module _ (σ : ℕ → ℕ → ℕ) (U : List Key) (ap_U : Apart σ U) where
   notes_hat : (l ks : List Key) → ((j : Key) → Memᴰ j l → Memᴰ j U) → ((j : Key) → Memᴰ j ks → Memᴰ j U)
       → foldl note (map (hat σ) ks) (map (hat σ) l) ≡ map (hat σ) (foldl note ks l)
   notes_hat [] ks g h = refl
   notes_hat (k ∷ l) ks g h =
-      ap (λ o. foldl note o (map (hat σ) l)) (note_hat σ U ap-U ks k (g k (Memᴰ.head refl)) h)
+      ap (λ o. foldl note o (map (hat σ) l)) (note_hat σ U ap_U ks k (g k (Memᴰ.head refl)) h)
       ∙ notes_hat l (note ks k) (λ j m. g j (Memᴰ.tail m)) (λ j m. by j (put_in by_key ks k m))
     where
       by : (j : Key) → Memᴰ j ks ⊎ (j ≡ k) → Memᴰ j U

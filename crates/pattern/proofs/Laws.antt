@@ -13,7 +13,7 @@ use Rattle.ground.proofs.Tests.{true_false}
 use Rattle.ground.proofs.Picks.{same_inside, in_list, test_in}
 use Rattle.pattern.specs.Pat.{Pat, size}
 use Rattle.pattern.specs.Pat.Pat.{Empty, Byte, Any, Tag, Seq, Alt}
-use Rattle.pattern.specs.Sets.{Item, Step, fresh, ready, held, quote, dash, dash-quote, name, shut, bad, set_on, Scanned, listing, wrong, onward, scan}
+use Rattle.pattern.specs.Sets.{Item, Step, fresh, ready, held, quote, dash, dash_quote, name, shut, bad, set_on, Scanned, listing, wrong, onward, scan}
 use Rattle.pattern.specs.Reader.{Res, ok, form, deep, Lvl, alts, seq, piece, atom, and_then, stops, barred, on_byte, set_read, set_from, set_at, on_set, on_dot, tagged, is_tag, on_mark, escaped, on_esc, single, alt_tail, seq_tail, opt?, plus?, repeated, closed, grouped, atom_or, step, read_in, left, read}
 
 -- the byte at a place, whatever stands for the end
@@ -82,7 +82,7 @@ scans_on n i f st xs h g = go st
     go (held c) = later (f (i + 1) (held c) xs) (g (held c) xs)
     go quote = later (f (i + 1) quote xs) (g quote xs)
     go (dash c) = later (f (i + 1) (dash c) xs) (g (dash c) xs)
-    go (dash-quote c) = later (f (i + 1) (dash-quote c) xs) (g (dash-quote c) xs)
+    go (dash_quote c) = later (f (i + 1) (dash_quote c) xs) (g (dash_quote c) xs)
     go (name w) = later (f (i + 1) (name w) xs) (g (name w) xs)
 
 pub scans : (n : ℕ) (w : List ℕ) (i : ℕ) → i + length w ≡ n → (st : Step) (xs : List Item) → Scans n i (scan w i st xs)
@@ -294,7 +294,7 @@ module _ (s : List ℕ) (d i : ℕ) (h : i ≤ length s) where
   alts_one e p q no_bar = alts_step ∙ then_ok _ (λ e p. alt_tail (eqb (look s e) 124) (read s alts d) e p) e p q ∙ ap (λ b. alt_tail b (read s alts d) e p) (ne_eqb _ _ no_bar)
 
   pub alts_more : (e : ℕ) (p : Pat) → read s seq d i ≡ ok e p → look s e ≡ 124 → read s alts d i ≡ and_then (read s alts d (e + 1)) (λ e' q. ok e' (Alt p q))
-  alts_more e p q is-bar = alts_step ∙ then_ok _ (λ e p. alt_tail (eqb (look s e) 124) (read s alts d) e p) e p q ∙ ap (λ b. alt_tail b (read s alts d) e p) (eq-eqb _ _ is-bar)
+  alts_more e p q is_bar = alts_step ∙ then_ok _ (λ e p. alt_tail (eqb (look s e) 124) (read s alts d) e p) e p q ∙ ap (λ b. alt_tail b (read s alts d) e p) (eq-eqb _ _ is_bar)
 
   pub seq_none : stops (look s i) ≡ true → read s seq d i ≡ ok i Empty
   seq_none t = read_step s seq d i h ∙ ap (λ b. seq_tail b (read s piece d) (read s seq d) i) t

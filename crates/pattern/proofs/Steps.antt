@@ -158,9 +158,9 @@ module _ (s : List ℕ) (d i : ℕ) (h : i ≤ length s) where
     pub alts_alone : (look s e ≡ 124 → ⊥) → Ok e m ≡ measured (read s alts d i)
     alts_alone no_bar = let v = inv (read s seq d i) q in told _ e m v.pat (alts_one s d i h e v.pat v.is no_bar) v.summed
 
-    module _ (is-bar : look s e ≡ 124) where
+    module _ (is_bar : look s e ≡ 124) where
       more : read s alts d i ≡ and_then (read s alts d (e + 1)) (λ e' p. ok e' (Alt (inv (read s seq d i) q).pat p))
-      more = let v = inv (read s seq d i) q in alts_more s d i h e v.pat v.is is-bar
+      more = let v = inv (read s seq d i) q in alts_more s d i h e v.pat v.is is_bar
 
       pub alts_before : measured (read s alts d i) ≡ added (rep_sum m) (measured (read s alts d (e + 1)))
       alts_before = ap measured more ∙ then_alt (inv (read s seq d i) q).pat m (read s alts d (e + 1)) (inv (read s seq d i) q).summed

@@ -91,7 +91,7 @@ pub data Step : Type 0 where
   held : (c : ℕ) → Step
   quote : Step
   -- after c-, d is to come; after c-\
-  dash dash-quote : (c : ℕ) → Step
+  dash dash_quote : (c : ℕ) → Step
   -- after `[` and these bytes, that begin the word of a class
   name : List ℕ → Step
   -- after the set's `]`; no set goes on so
@@ -120,8 +120,8 @@ set_on fresh c = item c
 set_on ready c = ends c
 set_on (held a) c = pick (eqb c 45) (dash a) (ends c)
 set_on quote c = held c
-set_on (dash a) c = pick (eqb c 92) (dash-quote a) (pick (among c (91 ∷ 93 ∷ 45 ∷ 94 ∷ [])) bad (upto a c))
-set_on (dash-quote a) c = upto a c
+set_on (dash a) c = pick (eqb c 92) (dash_quote a) (pick (among c (91 ∷ 93 ∷ 45 ∷ 94 ∷ [])) bad (upto a c))
+set_on (dash_quote a) c = upto a c
 set_on (name w) c = after_name (seek (w ++ c ∷ []) names 0) (w ++ c ∷ [])
 set_on shut c = bad
 set_on bad c = bad
@@ -138,7 +138,7 @@ gained ready c = []
 gained (held a) c = pick (eqb c 45) [] (span a a ∷ [])
 gained quote c = []
 gained (dash a) c = pick (eqb c 92) [] (span a c ∷ [])
-gained (dash-quote a) c = span a c ∷ []
+gained (dash_quote a) c = span a c ∷ []
 gained (name w) c = class_of (seek (w ++ c ∷ []) names 0)
 gained shut c = []
 gained bad c = []
@@ -156,7 +156,7 @@ onward ready f i xs = f (i + 1) ready xs
 onward (held c) f i xs = f (i + 1) (held c) xs
 onward quote f i xs = f (i + 1) quote xs
 onward (dash c) f i xs = f (i + 1) (dash c) xs
-onward (dash-quote c) f i xs = f (i + 1) (dash-quote c) xs
+onward (dash_quote c) f i xs = f (i + 1) (dash_quote c) xs
 onward (name w) f i xs = f (i + 1) (name w) xs
 
 -- the bytes w of a set, that stand at i, after the items xs

@@ -6,19 +6,19 @@ use Rattle.pattern.specs.Sets as sets
 use Rattle.pattern.specs.Sets.{Item, Step, Named, names, word_of, listed}
 use Rattle.pattern.specs.declared.sets.Stand.{Stand}
 use Rattle.pattern.specs.declared.sets.Stand.TheVariants.{Fresh, Ready, Held, Quote, Dash, DashQuote, Name, Shut, Bad}
-use Rattle.pattern.specs.declared.sets.Word as declared-word
+use Rattle.pattern.specs.declared.sets.Word as declared_word
 use Rattle.pattern.specs.declared.sets.Word.TheVariants.{Whole, Begun, Nothing}
 use Rattle.pattern.specs.declared.sets.Gain.{Gain}
 use Rattle.pattern.specs.declared.sets.Gain.TheVariants as gain
 use Rattle.pattern.specs.declared.sets.Gain.TheVariants.{Span, Class}
-use Rattle.pattern.specs.declared.sets.Scanned as declared-scanned
+use Rattle.pattern.specs.declared.sets.Scanned as declared_scanned
 use Rattle.pattern.specs.declared.sets.Scanned.TheVariants.{At, Wrong}
 
 -- what follows the `[` in the name of class k
 unfoldable pub word : ℕ → List ℕ
 word k = word_of (get_or names k [])
 
-unfoldable pub told : declared-word.Word → Named
+unfoldable pub told : declared_word.Word → Named
 told (Whole k) = sets.whole k
 told Begun = sets.begun
 told Nothing = sets.none
@@ -30,7 +30,7 @@ stands s i Ready = sets.ready
 stands s i (Held c) = sets.held c
 stands s i Quote = sets.quote
 stands s i (Dash c) = sets.dash c
-stands s i (DashQuote c) = sets.dash-quote c
+stands s i (DashQuote c) = sets.dash_quote c
 stands s i (Name from) = sets.name (take (i - from) (drop from s))
 stands s i Shut = sets.shut
 stands s i Bad = sets.bad
@@ -74,7 +74,7 @@ Listed m (sets.listing e xs) = Marks m xs
 Listed m (sets.wrong q) = Unit {0}
 
 -- where the reading ended
-unfoldable pub seen : sets.Scanned → declared-scanned.Scanned
+unfoldable pub seen : sets.Scanned → declared_scanned.Scanned
 seen (sets.listing e xs) = At e
 seen (sets.wrong q) = Wrong q
 
