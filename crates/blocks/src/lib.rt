@@ -98,7 +98,8 @@ pub fn obey_block(w: usize, place: usize, bank: &mut [i16; 128]) -> bool
     if 64 < to + n {
         return false;
     }
-    if to < f {
+    let highest = to;
+    if highest < f {
         return false;
     }
     shift(bank, to, f, n);

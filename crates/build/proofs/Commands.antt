@@ -9,7 +9,7 @@ use lib.Dec.{eqb}
 use lib.ListN.{length, get_or, take, drop, set, length-map, drop_of_length-le}
 use lib.Seq.{drop-cons, get_or-take, length-take-le, take-suc-set}
 use borrow.Author.Tests.{eq-eqb, ne_eqb}
-use Rattle.ground.proofs.Lists.{map_append, get_d_map}
+use Rattle.ground.proofs.Lists.{map_append, get_or_map}
 use Rattle.paths.specs.Registers.{Key}
 use Rattle.paths.specs.Equal.{same_list}
 use Rattle.card.specs.Table.{Cmd, move, put}
@@ -47,7 +47,7 @@ module _ (c : Orders) (few : c.n ≤ length c.list) where
       let l = length-take-le c.n c.list few in
       let m = length-map (take c.n c.list) order_of in
       drop-cons (map order_of (take c.n c.list)) i (order_of no_order) (omega arith)
-      ∙ ap (λ v. v ∷ drop (suc i) (map order_of (take c.n c.list))) (get_d_map order_of (take c.n c.list) i no_order (order_of no_order) (omega arith) ∙ ap order_of (get_or-take c.n c.list i no_order b))
+      ∙ ap (λ v. v ∷ drop (suc i) (map order_of (take c.n c.list))) (get_or_map order_of (take c.n c.list) i no_order (order_of no_order) (omega arith) ∙ ap order_of (get_or-take c.n c.list i no_order b))
       ∙ ap (λ v. order_of (get_or c.list i no_order) ∷ drop v (map order_of (take c.n c.list))) (sym (add-one i))
 
 -- ---- the commands of the registers
@@ -85,7 +85,7 @@ module _ (fresh : ℕ) (r : List ℕ) (n : ℕ) where
       let z : 0 + i ≡ i = omega arith in
       drop-cons (map (λ (k : Key). k.1) (keys_at r 0 n)) i 0 (omega arith)
       ∙ ap (λ v. v ∷ drop (suc i) (map (λ (k : Key). k.1) (keys_at r 0 n)))
-      (get_d_map (λ (k : Key). k.1) (keys_at r 0 n) i (0, 0) 0 (omega arith) ∙ ap (λ (k : Key). k.1) (keys_at_at r 0 n i (0, 0) b ∙ ap (key_of r) z))
+      (get_or_map (λ (k : Key). k.1) (keys_at r 0 n) i (0, 0) 0 (omega arith) ∙ ap (λ (k : Key). k.1) (keys_at_at r 0 n i (0, 0) b ∙ ap (key_of r) z))
       ∙ ap (λ v. get_or r (2 * i + 1) 0 ∷ drop v (map (λ (k : Key). k.1) (keys_at r 0 n))) (sym (add-one i))
 
   pub commands_more : (c c' : Orders) (i : ℕ) → i < n → orders_of c ++ commands fresh i (drop i (map (λ k. k.1) (keys_at r 0 n))) ≡ commands fresh 0 (map (λ k. k.1) (keys_at r 0 n))

@@ -18,6 +18,9 @@ ghost use Rattle.build.specs.Build.{refusal, Makes, Attempts, Builds};
 use answers::{OUT_SMALL, WORK_SMALL};
 use explore::Closing;
 
+// How many bytes of work memory a build takes.
+const WORK: usize = 65536;
+
 // From an automaton file to a table file, in lent work memory.
 
 // ---- commands
@@ -53,6 +56,7 @@ fn commands_of(fresh: u8, regs: &[u8], n: usize) -> Orders
     while k < n {
         let from = regs[2 * k + 1];
         let to = k as u8;
+        let own = to;
         if from == fresh {
             list[m] = Order {
                 set: true,
@@ -60,7 +64,7 @@ fn commands_of(fresh: u8, regs: &[u8], n: usize) -> Orders
                 from: 0,
             };
             m += 1;
-        } else if from != to {
+        } else if from != own {
             list[m] = Order {
                 set: false,
                 to,
@@ -495,7 +499,7 @@ fn attempt(file: &[u8], work: &mut [u8], out: &mut [u8]) -> Built
     ensures size { length work.new ≡ length work.old }
     ensures attempts { Attempts file.now (length work.old) out.old out.new result }
 {
-    if work.len() < 65536 {
+    if work.len() < WORK {
         return refuse(WORK_SMALL);
     }
     let p = net::places(file);

@@ -6,7 +6,7 @@ use mathlib.Core.Option.{Option, none, some}
 use Prim.Native.Nat.{ℕ, ◌≤◌, ◌<◌}
 use native.Mathlib.Omega.{arith}
 use lib.ListN.{length, get_or, replicate, length-map, length-replicate, get_or-replicate}
-use Rattle.ground.proofs.Lists.{get_d_map}
+use Rattle.ground.proofs.Lists.{get_or_map}
 use Rattle.net.specs.Rec.{Net}
 use Rattle.paths.specs.Situation.{first_end}
 use Rattle.paths.specs.Registers.{Tags, situation, next, origins}
@@ -50,7 +50,7 @@ module _ {tags : ℕ} {A : Net} (fits : Fits tags A) where
         omega (arith, d.small),
         length-map x.1 field_of ∙ d.eight.size,
         λ t h. (
-            let g = get_d_map field_of x.1 t none 0 (omega (arith, d.eight.size)) in
+            let g = get_or_map field_of x.1 t none 0 (omega (arith, d.eight.size)) in
             subst (Field tags (most (states A)) x.0 t) (sym g)
             (field_formed (most (states A)) x.0 t (get_or x.1 t none) (d.eight.past t) d.small (λ r q. omega (arith, d.below t r q)))
             ),

@@ -11,14 +11,14 @@ use native.Mathlib.Decide.{dec_le}
 use lib.IntN.{pos}
 use lib.ListN.{length, get_or, set, replicate, length-replicate, get_or-replicate}
 use borrow.Author.Tests.{lt-ltb, le-ltb, eq-eqb, ne_eqb}
-use Rattle.ground.proofs.Lists.{get_d_map}
+use Rattle.ground.proofs.Lists.{get_or_map}
 use Rattle.net.specs.Rec.{Net, rec}
 use Rattle.paths.specs.Ways.{Turn, first, second, mark, turn}
 use Rattle.paths.specs.Search.{Thread}
 use Rattle.paths.specs.Situation.{close}
 use Rattle.paths.specs.Registers.{Tags, no_tags, tagged, stands, standing, begin, after, Key, held_by, registers, rename, renamed, number, situation, next, origins, fetch, State as Going, feed, run as goes, ready}
 use Rattle.paths.specs.Equal.{same_situation}
-use Rattle.ground.proofs.Members.{get_d_mem}
+use Rattle.ground.proofs.Members.{get_or_mem}
 use Rattle.ground.specs.Lists.{Bytes}
 use Rattle.paths.proofs.Same.{lifts, lifts_close}
 use Rattle.paths.proofs.Numbers.{hat, held_renamed, registers_held}
@@ -48,7 +48,7 @@ pub sit_at : (tags : ℕ) (A : Net) (s : State) → Memᴰ s (states A) → sit 
 unfolding table_of card_of
 sit_at tags A s m =
     let p = position_at same_situation situation_test [] s m in
-    get_d_map (sit_of A (states A)) (states A) (position same_situation s (states A)) [] no_sit p.0 ∙ ap (sit_of A (states A)) p.1
+    get_or_map (sit_of A (states A)) (states A) (position same_situation s (states A)) [] no_sit p.0 ∙ ap (sit_of A (states A)) p.1
 
 row_by : (A : Net) (S : List State) (s : State) (b : ℕ) → b < 256 → Same (row_for (sit_of A S s).rows b) (byte_row A S s b)
 unfolding sit_of
@@ -107,8 +107,8 @@ module _ {tags : ℕ} {A : Net} (fits : Fits tags A) where
           let z : i ≡ 0 + i = omega arith in
           ap (reg r.bank) z
           ∙ r.above i k
-          ∙ fetched_place (need s.sit) (suc p) f.bank s.bank f.holds (get_or (origins A b s.sit) i 0) (bound (get_or (origins A b s.sit) i 0) (get_d_mem (origins A b s.sit) i 0 k))
-          ∙ ap pos (sym (get_d_map (fetch (suc p) (need s.sit) s.bank) (origins A b s.sit) i 0 0 k))
+          ∙ fetched_place (need s.sit) (suc p) f.bank s.bank f.holds (get_or (origins A b s.sit) i 0) (bound (get_or (origins A b s.sit) i 0) (get_or_mem (origins A b s.sit) i 0 k))
+          ∙ ap pos (sym (get_or_map (fetch (suc p) (need s.sit) s.bank) (origins A b s.sit) i 0 0 k))
 
   -- ---- a line
 
@@ -195,7 +195,7 @@ module _ {tags : ℕ} {A : Net} (fits : Fits tags A) where
           ap (reg r.bank) z
           ∙ r.above i (omega arith)
           ∙ ap (fetched 0 0 empties) (get_or-replicate {A = ℕ} n i 0 0 (omega arith))
-          ∙ ap pos (sym (get_d_map (λ k. k.1) (registers (begin A)) i (0, 0) 0 k ∙ at_zero A (get_or (registers (begin A)) i (0, 0)) (get_d_mem (registers (begin A)) i (0, 0) k)))
+          ∙ ap pos (sym (get_or_map (λ k. k.1) (registers (begin A)) i (0, 0) 0 k ∙ at_zero A (get_or (registers (begin A)) i (0, 0)) (get_or_mem (registers (begin A)) i (0, 0) k)))
 
   -- THE RUN: over any line of bytes it goes with the net's run
   pub table_follows : (w : List ℕ) → Bytes w → Follows A (goes A 0 (ready A) w) (over (table_of tags A) w)

@@ -12,7 +12,7 @@ use Rattle.paths.specs.Registers.{situation, next}
 use Rattle.paths.specs.Equal.{same_situation}
 use Rattle.paths.specs.Numbering.{numbered}
 use Rattle.paths.specs.Limits.{bytes, all, first, Closes, OverRegisters, OverSituations}
-use Rattle.ground.proofs.Members.{Prefix, ≼_trans, ≼_length, mem_get_d, get_d_mem}
+use Rattle.ground.proofs.Members.{Prefix, ≼_trans, ≼_length, mem_get_or, get_or_mem}
 use Rattle.ground.specs.Lists.{Bytes}
 use Rattle.ground.proofs.Every.{bytes_more}
 use Rattle.paths.proofs.Next.{situation_next}
@@ -83,7 +83,7 @@ module _ {A : Net} {n : ℕ} (c : Closes A n) where
       record {
         legal = legal;
         few = rw closes_states (omega (arith, c.whole, c.few));
-        slim = λ s m. let r = mem_get_d [] (rw closes_states at m) in omega (arith, ap need r.1.1, c.small r.0 (omega (arith, r.1.0, c.whole)));
+        slim = λ s m. let r = mem_get_or [] (rw closes_states at m) in omega (arith, ap need r.1.1, c.small r.0 (omega (arith, r.1.0, c.whole)));
         complete = λ w h. rw closes_states (closed_every A n shut w (input_of w h));
       }
 
@@ -94,7 +94,7 @@ fits_exactly {tags} {A} = (λ f. (f.legal, slim f, few f), λ h. by h.0 h.1 h.2 
     slim : Fits tags A → ¬ OverRegisters A
     slim f o =
         let r = first_97 A o.reached o.early in
-        let q = f.slim (get_or (all A 96) o.k []) (rw (states_all A) (get_d_mem (all A 96) o.k [] r.0)) in
+        let q = f.slim (get_or (all A 96) o.k []) (rw (states_all A) (get_or_mem (all A 96) o.k [] r.0)) in
         let z = o.needs in
         omega (arith, ap need r.1)
 

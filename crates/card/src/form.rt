@@ -120,6 +120,7 @@ fn fields_ok(s: &[u8], at: usize, answer: usize, tags: usize, regs: usize) -> bo
 }
 
 // Whether every situation has begun, and the last one has its row to 255.
+#[tactic(auto, using(std::proofs::lemmas::Bool::Decides::nat_tests), unfolding(ground::specs::Pick::pick, crate::specs::Form::whole))]
 fn complete(begun: usize, lo: usize, sits: usize) -> bool
     ensures { result ≡ whole begun lo sits }
 {
@@ -194,6 +195,7 @@ fn sit_step(f: Cursor, s: &[u8], h: Head) -> Went
 }
 
 // A ROW item.
+#[tactic(auto, using(std::proofs::lemmas::Bool::Decides::nat_tests), unfolding(ground::specs::Pick::pick, crate::specs::Form::row_step))]
 fn row_step(f: Cursor, s: &[u8], h: Head) -> Went
     requires { f.at < length s.now }
     ensures { result ≡ row_step s.now h f }

@@ -13,7 +13,7 @@ use Rattle.paths.specs.Equal.{same_situation}
 use Rattle.paths.specs.Numbering.{among, once, nexts, numbered, explored}
 use Rattle.paths.specs.Limits.{Sit, bytes, all, first}
 use Rattle.paths.proofs.Member.{Bool-cases}
-use Rattle.ground.proofs.Members.{Prefix, get_d_mem}
+use Rattle.ground.proofs.Members.{Prefix, get_or_mem}
 use Rattle.paths.proofs.Builder.{situation_test, found_first, found_all}
 use Rattle.paths.proofs.Limits.{closed_next}
 use Rattle.explore.specs.Lists.{span}
@@ -49,7 +49,7 @@ span_bytes k (suc n) = ap (λ l. k ∷ l) (span_bytes (k + 1) n)
 module _ (A : Net) (n : ℕ) (whole : length (first A n) ≡ n) where
   -- every byte leads to one of them
   pub closed : (i b : ℕ) → i < n → b < 256 → among same_situation (next A b (get_or (first A n) i [])) (first A n) ≡ true
-  closed i b c d = mem_among (closed_next A n (omega arith) d (get_d_mem (first A n) i [] (omega arith)))
+  closed i b c d = mem_among (closed_next A n (omega arith) d (get_or_mem (first A n) i [] (omega arith)))
 
   first_still : (m : ℕ) → first A (n + m) ≡ first A n
   unfolding explored

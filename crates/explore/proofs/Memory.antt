@@ -11,7 +11,7 @@ use lib.Dec.{eqb}
 use lib.ListN.{length, get_or, take, set, length-set}
 use lib.Seq.{get_or-set_same, get_or-set_other, ext_get_or}
 use borrow.Author.Tests.{eqb-true, eqb-false}
-use Rattle.ground.proofs.Lists.{get_d_map}
+use Rattle.ground.proofs.Lists.{get_or_map}
 use Rattle.paths.specs.Search.{Thread}
 use Rattle.paths.specs.Registers.{Tags}
 use Rattle.paths.specs.Equal.{same_thread, same_situation}
@@ -143,7 +143,7 @@ module _ (w : List ℕ) (at : ℕ) (e : Entry) where
       same_byte : get_or (tags_of e.had) t none ≡ get_or (tags_of (row w (at + 1) 8)) t none → get_or e.had t 0 ≡ get_or w (at + 1 + t) 0
       same_byte q =
           opt_injective _ _
-          (sym (get_d_map opt e.had t 0 none (omega arith)) ∙ q ∙ get_d_map opt (row w (at + 1) 8) t 0 none (omega (arith, row_length w (at + 1) 8)) ∙ ap opt (row_at w (at + 1) 8 t b))
+          (sym (get_or_map opt e.had t 0 none (omega arith)) ∙ q ∙ get_or_map opt (row w (at + 1) 8) t 0 none (omega (arith, row_length w (at + 1) 8)) ∙ ap opt (row_at w (at + 1) 8 t b))
 
   pub same_all : length e.had ≡ 8 → e.on ≡ get_or w at 0 → (t : ℕ) → 8 ≤ t → ((k : ℕ) → k < t → get_or w (at + 1 + k) 0 ≡ get_or e.had k 0) → true ≡ same_thread (thread_of e) (thread_at w at)
   same_all n o t b h = sym (ap (λ v. same_thread (thread_of e) v) (thread_at_is w at e n (sym o) (λ k c. h k (omega arith))) ∙ thread_refl (thread_of e))

@@ -11,7 +11,7 @@ use lib.Dec.{eqb}
 use lib.ListN.{length, get_or, take, drop, set, replicate, length-map, length-set, length-append, drop_of_length-le}
 use lib.Seq.{take-suc, drop-cons, length-take-le, set_at, get_or-set_same, get_or-set_other}
 use borrow.Author.Tests.{eq-eqb, ne_eqb}
-use Rattle.ground.proofs.Lists.{map_set, get_d_map, each_append}
+use Rattle.ground.proofs.Lists.{map_set, get_or_map, each_append}
 use Rattle.paths.specs.Search.{Thread}
 use Rattle.net.specs.Rec.{Net}
 use Rattle.paths.specs.Marks.{marking, marked_close}
@@ -193,7 +193,7 @@ held_split u (some p) ρ = refl
 
 module _ (l : List ℕ) (t : ℕ) (b : t < length l) where
   tag_at : get_or (tags_of l) t none ≡ opt (get_or l t 0)
-  tag_at = get_d_map opt l t 0 none b
+  tag_at = get_or_map opt l t 0 none b
 
   t_in : t < length (tags_of l)
   t_in = let e = length-map l opt in omega arith
@@ -257,14 +257,14 @@ module _ (σ : ℕ → ℕ → ℕ) where
     in_it = let e = length-map had opt in omega arith
 
     left : drop t (tags_of had) ≡ opt (get_or had t 0) ∷ drop (suc t) (tags_of had)
-    left = drop-cons (tags_of had) t none in_it ∙ ap (λ v. v ∷ drop (suc t) (tags_of had)) (get_d_map opt had t 0 none b)
+    left = drop-cons (tags_of had) t none in_it ∙ ap (λ v. v ∷ drop (suc t) (tags_of had)) (get_or_map opt had t 0 none b)
 
     long : 0 + length (take t (tags_of had)) ≡ t
     long = let h = in_it in omega (arith, length-take-le t (tags_of had) (omega arith))
 
     more : renamed σ 0 (take (suc t) (tags_of had)) ≡ renamed σ 0 (take t (tags_of had)) ++ renamed σ t (opt (get_or had t 0) ∷ [])
     more =
-        ap (renamed σ 0) (take-suc (tags_of had) t none in_it ∙ ap (λ v. take t (tags_of had) ++ (v ∷ [])) (get_d_map opt had t 0 none b))
+        ap (renamed σ 0) (take-suc (tags_of had) t none in_it ∙ ap (λ v. take t (tags_of had) ++ (v ∷ [])) (get_or_map opt had t 0 none b))
         ∙ renamed_append 0 (take t (tags_of had)) (opt (get_or had t 0) ∷ []) ∙ ap (λ j. renamed σ 0 (take t (tags_of had)) ++ renamed σ j (opt (get_or had t 0) ∷ [])) long
 
     shift : renamed σ 0 (take (t + 1) (tags_of had)) ++ drop (t + 1) (tags_of had) ≡ renamed σ 0 (take t (tags_of had)) ++ (renamed σ t (opt (get_or had t 0) ∷ []) ++ drop (suc t) (tags_of had))

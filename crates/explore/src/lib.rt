@@ -18,6 +18,9 @@ ghost use Rattle.explore.specs.Visit.{Ready, Means};
 
 use answers::{REGISTERS, SITUATIONS};
 
+// The most situations that a table has.
+const MOST: usize = 96;
+
 // From the records of an automaton file to its situations, in the lent work memory. A situation under way is a list of its
 // own in the shape of a slot: 578 bytes, changed in place, as the marks and the registers are.
 // What the public functions ask is shown by `build`: `Formed` comes from the reader of the file, `Kept` from the exploration.
@@ -274,7 +277,8 @@ fn find(regs: &[u8], n: usize, t: u8, o: u8) -> usize
 {
     let mut i: usize = 0;
     while i < n {
-        if regs[2 * i] == t {
+        let tag = t;
+        if regs[2 * i] == tag {
             if regs[2 * i + 1] == o {
                 return i;
             }
@@ -532,7 +536,7 @@ fn try_byte(file: &[u8], offs: &[usize], work: &mut [u8], s: &[u8], count: usize
     if j < count {
         return Tried { answer: 0, count };
     }
-    if 96 <= count {
+    if MOST <= count {
         return Tried {
             answer: SITUATIONS,
             count,

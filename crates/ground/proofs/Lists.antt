@@ -20,10 +20,10 @@ map_set f [] i a = refl
 map_set f (x ∷ l) zero a = refl
 map_set f (x ∷ l) (suc i) a = ap (λ v. f x ∷ v) (map_set f l i a)
 
-pub get_d_map : {A B : Type 0} (f : A → B) (l : List A) (i : ℕ) (d : A) (e : B) → i < length l → get_or (map f l) i e ≡ f (get_or l i d)
-get_d_map f [] i d e h = absurd (omega arith)
-get_d_map f (x ∷ l) zero d e h = refl
-get_d_map f (x ∷ l) (suc i) d e h = get_d_map f l i d e (omega arith)
+pub get_or_map : {A B : Type 0} (f : A → B) (l : List A) (i : ℕ) (d : A) (e : B) → i < length l → get_or (map f l) i e ≡ f (get_or l i d)
+get_or_map f [] i d e h = absurd (omega arith)
+get_or_map f (x ∷ l) zero d e h = refl
+get_or_map f (x ∷ l) (suc i) d e h = get_or_map f l i d e (omega arith)
 
 -- the length of a list, from that of its image
 pub unmapped : {A B : Type 0} (f : A → B) (l : List A) (n : ℕ) → length (map f l) ≡ n → length l ≡ n

@@ -32,14 +32,14 @@ pub map_has : {A B : Type 0} (f : A → B) {x : A} {l : List A} → Memᴰ x l �
 map_has f (Memᴰ.head e) = Memᴰ.head (ap f e)
 map_has f (Memᴰ.tail m) = Memᴰ.tail (map_has f m)
 
-pub get_d_mem : {A : Type 0} (l : List A) (i : ℕ) (d : A) → i < length l → Memᴰ (get_or l i d) l
-get_d_mem [] i d h = absurd (omega arith)
-get_d_mem (x ∷ l) zero d h = Memᴰ.head refl
-get_d_mem (x ∷ l) (suc i) d h = Memᴰ.tail (get_d_mem l i d (omega arith))
+pub get_or_mem : {A : Type 0} (l : List A) (i : ℕ) (d : A) → i < length l → Memᴰ (get_or l i d) l
+get_or_mem [] i d h = absurd (omega arith)
+get_or_mem (x ∷ l) zero d h = Memᴰ.head refl
+get_or_mem (x ∷ l) (suc i) d h = Memᴰ.tail (get_or_mem l i d (omega arith))
 
-pub mem_get_d : {A : Type 0} (d : A) {x : A} {l : List A} → Memᴰ x l → (i : ℕ) × ((i < length l) × (get_or l i d ≡ x))
-mem_get_d d (Memᴰ.head e) = (0, (omega arith, sym e))
-mem_get_d d (Memᴰ.tail m) = let r = mem_get_d d m in (suc r.0, (omega (arith, r.1.0), r.1.1))
+pub mem_get_or : {A : Type 0} (d : A) {x : A} {l : List A} → Memᴰ x l → (i : ℕ) × ((i < length l) × (get_or l i d ≡ x))
+mem_get_or d (Memᴰ.head e) = (0, (omega arith, sym e))
+mem_get_or d (Memᴰ.tail m) = let r = mem_get_or d m in (suc r.0, (omega (arith, r.1.0), r.1.1))
 
 pub mem_split : {A : Type 0} {x : A} {l : List A} → Memᴰ x l → (pre : List A) × ((post : List A) × (l ≡ pre ++ x ∷ post))
 mem_split (Memᴰ.head {xs = xs} e) = ([], (xs, ap (λ y. y ∷ xs) (sym e)))

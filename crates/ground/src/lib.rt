@@ -26,11 +26,14 @@ pub fn held(place: usize) -> i16
     place as i16
 }
 
+// The least position that says a place.
+const FIRST: i16 = 0;
+
 // A position taken for what it says: the only function that looks at a sign.
 pub fn place_of(v: i16) -> Place
     ensures { result ≡ place_of v }
 {
-    if v < 0 {
+    if v < FIRST {
         return Place::Absent;
     }
     Place::At(v as usize)

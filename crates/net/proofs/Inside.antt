@@ -13,10 +13,10 @@ use Rattle.ground.proofs.Every.{every_at, every_from}
 use Rattle.net.specs.Items.{rec_at, net_at, size, starts, got, item_at, Placed}
 use Rattle.net.proofs.Whole.{Stands, kind_known, reads_from, net_head, item_got}
 
-get_d_map : {A B : Type 0} (f : A → B) (l : List A) (i : ℕ) (d : A) (e : B) → i < length l → get_or (map f l) i e ≡ f (get_or l i d)
-get_d_map f [] i d e h = absurd (omega arith)
-get_d_map f (x ∷ l) zero d e h = refl
-get_d_map f (x ∷ l) (suc i) d e h = get_d_map f l i d e (omega arith)
+get_or_map : {A B : Type 0} (f : A → B) (l : List A) (i : ℕ) (d : A) (e : B) → i < length l → get_or (map f l) i e ≡ f (get_or l i d)
+get_or_map f [] i d e h = absurd (omega arith)
+get_or_map f (x ∷ l) zero d e h = refl
+get_or_map f (x ∷ l) (suc i) d e h = get_or_map f l i d e (omega arith)
 
 pub net_length : (s offs : List ℕ) → length (net_at s offs) ≡ length offs
 unfolding net_at
@@ -24,7 +24,7 @@ net_length s offs = length-map offs (rec_at s)
 
 pub rec_net : (s offs : List ℕ) (r : ℕ) → r < length offs → rec (net_at s offs) r ≡ rec_at s (get_or offs r 0)
 unfolding net_at
-rec_net s offs r h = get_d_map (rec_at s) offs r 0 (mask [] 0) h
+rec_net s offs r h = get_or_map (rec_at s) offs r 0 (mask [] 0) h
 
 size_two : (k : ℕ) → 2 ≤ size k
 size_two k = by (eqb k 17) (eqb k 18) (eqb k 21)

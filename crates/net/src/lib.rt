@@ -73,7 +73,8 @@ fn range_item(s: &[u8], at: usize, count: u8) -> Next
     let lo = s[at + 1];
     let hi = s[at + 2];
     let next = s[at + 3];
-    if hi < lo {
+    let least = lo;
+    if hi < least {
         return Next::Refused(NET_FIELD);
     }
     if count <= next {
@@ -238,7 +239,8 @@ pub fn places(net: &[u8]) -> Layout
         at = after;
         i += 1;
     }
-    if at < net.len() {
+    let end = net.len();
+    if at < end {
         return none(NET_EXTRA);
     }
     Layout {

@@ -99,7 +99,7 @@ answer_after A w =
     start : List (Thread Tags)
     start = record { on = 0; had = no_tags } ∷ []
 
--- the builder's list is the situation's (`Meant.threads-right`), with the places that each path has stored
+-- the builder's list is the situation's (`Meant.threads_right`), with the places that each path has stored
 pub after_paths : (A : Net) (w : List ℕ)
     → lifts (at_place (length w)) (after A 0 (begin A) w) ≡ lifts (λ p. held p empty_handed) (standing A (threads onto A w (record { on = 0; had = [] } ∷ [])))
 unfolding begin

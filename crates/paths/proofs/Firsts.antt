@@ -9,7 +9,7 @@ use lib.ListN.{length, get_or}
 use lib.Seq.{append_snoc}
 use Rattle.ground.specs.Lists.{each}
 use Rattle.ground.proofs.Lists.{each_append}
-use Rattle.ground.proofs.Members.{get_d_mem, Prefix, ≼_self, ≼_trans, Ordered, ordered_cross, ordered_skip}
+use Rattle.ground.proofs.Members.{get_or_mem, Prefix, ≼_self, ≼_trans, Ordered, ordered_cross, ordered_skip}
 
 -- Each of S has a key; `Has y l` says that one of l has the key y; `put` adds one whose key is new.
 pub record Keyed {S K : Type 0} (key : S → K) (Has : K → List S → Type 0) (put : List S → S → List S) : Type 0 where
@@ -151,8 +151,8 @@ module _ {S K : Type 0} {key : S → K} {Has : K → List S → Type 0} {put : L
   pub sole_at : (d : S) (l : List S) → Sole l → (i j : ℕ) → i < length l → j < length l → key (get_or l i d) ≡ key (get_or l j d) → i ≡ j
   sole_at d [] o i j h k e = absurd (omega arith)
   sole_at d (s ∷ l) o zero zero h k e = refl
-  sole_at d (s ∷ l) o zero (suc j) h k e = absurd (o.0 (subst (λ y. Has y l) (sym e) (has_of (get_d_mem l j d (omega arith)))))
-  sole_at d (s ∷ l) o (suc i) zero h k e = absurd (o.0 (subst (λ y. Has y l) e (has_of (get_d_mem l i d (omega arith)))))
+  sole_at d (s ∷ l) o zero (suc j) h k e = absurd (o.0 (subst (λ y. Has y l) (sym e) (has_of (get_or_mem l j d (omega arith)))))
+  sole_at d (s ∷ l) o (suc i) zero h k e = absurd (o.0 (subst (λ y. Has y l) e (has_of (get_or_mem l i d (omega arith)))))
   sole_at d (s ∷ l) o (suc i) (suc j) h k e = ap suc (sole_at d l o.1 i j (omega arith) (omega arith) e)
 
   -- ---- only the first of each key matters, to what comes of each

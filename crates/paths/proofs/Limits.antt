@@ -17,7 +17,7 @@ use Rattle.paths.specs.Registers.{registers, situation, next}
 use Rattle.paths.specs.Equal.{same_situation}
 use Rattle.paths.specs.Numbering.{upto, numbered, among, put, once, nexts, explored}
 use Rattle.paths.specs.Limits.{Before, Sit, bytes, Input, all, Numbered, OverRegisters, OverSituations, first, here, partly, Small, Closes, TooManyRegisters, TooManySituations, Stops, at_start, at_byte}
-use Rattle.ground.proofs.Members.{mem_split, ordered_cross, Prefix, ≼_trans, ≼_length, ≼_at, map_≼, get_d_mem, mem_get_d}
+use Rattle.ground.proofs.Members.{mem_split, ordered_cross, Prefix, ≼_trans, ≼_length, ≼_at, map_≼, get_or_mem, mem_get_or}
 use Rattle.ground.proofs.Lists.{map_append}
 use Rattle.paths.proofs.Firsts.{put_≼, gather_≼, gather_in, Keyed, gather_append, gather_mono, put_has, sole_at}
 use Rattle.paths.proofs.Next.{situation_next}
@@ -109,12 +109,12 @@ module _ (A : Net) where
   -- every input's situation has a number, and every number is that of an input's situation
   pub numbered_every : (w : List ℕ) → Input w → (k : ℕ) × Numbered A k (situation A w)
   numbered_every w h =
-      let r = mem_get_d [] (numbered_has same_situation situation_test (bytes 0 256) (next A) (situation A) (situation_next A) w (in_bytes h)) in
+      let r = mem_get_or [] (numbered_has same_situation situation_test (bytes 0 256) (next A) (situation A) (situation_next A) w (in_bytes h)) in
       (r.0, record { n = length w; there = r.1.0; it = r.1.1 })
 
   pub numbered_input : {k : ℕ} {s : Sit} → Numbered A k s → (w : List ℕ) × Input w × (situation A w ≡ s)
   numbered_input {k} x =
-      let r = numbered_of same_situation situation_test (bytes 0 256) (next A) (situation A) (situation_next A) x.n (get_d_mem (all A x.n) k [] x.there) in
+      let r = numbered_of same_situation situation_test (bytes 0 256) (next A) (situation A) (situation_next A) x.n (get_or_mem (all A x.n) k [] x.there) in
       (r.0, (λ b m. bytes_below 0 256 (r.1 b m)), r.2 ∙ x.it)
 
   -- ---- an exploration that closes has found them all, in order
@@ -138,7 +138,7 @@ module _ (A : Net) where
     closed_every w h =
         let r = numbered_every w h in
         let c = closed_numbered r.1 in
-        subst (λ s. Memᴰ s (first A n)) c.1 (get_d_mem (first A n) r.0 [] c.0)
+        subst (λ s. Memᴰ s (first A n)) c.1 (get_or_mem (first A n) r.0 [] c.0)
 
     pub closed_next : {s : Sit} {b : ℕ} → b < 256 → Memᴰ s (first A n) → Memᴰ (next A b s) (first A n)
     closed_next {s} {b} h m =
@@ -187,7 +187,7 @@ module _ (A : Net) where
       → (k : ℕ) × ((k ≤ length (partly A i b)) × Numbered A k (next A b (here A i)))
   put_number i b h c =
       let g = reaches i b h c in
-      let r = mem_get_d [] (put_has by_situation (partly A i b) (next A b (here A i))) in
+      let r = mem_get_or [] (put_has by_situation (partly A i b) (next A b (here A i))) in
       (r.0, (omega (arith, r.1.0, put_length (partly A i b) (next A b (here A i))), record { n = i + 1; there = omega (arith, ≼_length g, r.1.0); it = ≼_at [] g r.0 r.1.0 ∙ r.1.1 }))
 
   pub stop_registers : Stops A TooManyRegisters → OverRegisters A
@@ -311,10 +311,10 @@ module _ (A : Net) where
     -- a situation with a lower number than that of w is one of these
     lower_before : {k j : ℕ} {s : Sit} → Numbered A k s → Numbered A j (situation A w) → k < j → Memᴰ s before_w
     lower_before {k} {j} {s} x y h =
-        let r = mem_get_d [] (put_has by_situation before_w (situation A w)) in
+        let r = mem_get_or [] (put_has by_situation before_w (situation A w)) in
         let e = number_once (subst (λ t. Numbered A r.0 t) r.1.1 (numbered_from (length w) up_to_w r.0 r.1.0)) y in
         let i : k < length before_w = omega (arith, r.1.0, put_length before_w (situation A w)) in
-        subst (λ z. Memᴰ z before_w) (numbered_one (numbered_from (length w) (≼_trans (put_≼ by_situation before_w (situation A w)) up_to_w) k i) x) (get_d_mem before_w k [] i)
+        subst (λ z. Memᴰ z before_w) (numbered_one (numbered_from (length w) (≼_trans (put_≼ by_situation before_w (situation A w)) up_to_w) k i) x) (get_or_mem before_w k [] i)
 
     input_before : {s : Sit} → Memᴰ s before_w → (v : List ℕ) × (Input v × ((situation A v ≡ s) × Before v w))
     unfolding before_w

@@ -22,7 +22,7 @@ use Rattle.paths.proofs.Faithful.{onto, Trail, Quiet, each_cases, follow_cases, 
 
 -- ---- an order on the moves alone
 
--- they part: at a fork, or where p consumes a byte and q goes on without one (which no record allows: `parted-earlier`)
+-- they part: at a fork, or where p consumes a byte and q goes on without one (which no record allows: `parted_earlier`)
 pub data Parted : List Move → List Move → Type 0 where
   forks : {p q : List Move} → Parted (turn first ∷ p) (turn second ∷ q)
   eats : {b : ℕ} {u : Turn} {p q : List Move} → Parted (eat b ∷ p) (turn u ∷ q)

@@ -9,7 +9,7 @@ abbrev pub place_at : List (Thread Tags) → ℕ → ℕ → Option ℕ
 place_at l i t = get_or (get_or l i (record { on = 0; had = [] })).had t none
 
 -- "For each record and each tag it says absent, or which records in the list hold the same place for that same tag. Places of different tags are never
--- compared." Two lists with places are the same situation: they have equal register numbers exactly then (`Sharing.alike-number`).
+-- compared." Two lists with places are the same situation: they have equal register numbers exactly then (`Sharing.alike_number`).
 pub record Alike (l k : List (Thread Tags)) : Type 0 where
   pub records : ons l ≡ ons k
   pub absent : (i t : ℕ) → (place_at l i t ≡ none) ↔ (place_at k i t ≡ none)

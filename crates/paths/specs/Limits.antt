@@ -20,7 +20,7 @@ bytes k (suc n) = k ∷ bytes (k + 1) n
 abbrev pub Input : List ℕ → Type 0
 Input w = (b : ℕ) → Memᴰ b w → b < 256
 
--- "shorter first, then by byte values": the order of inputs. `Numbering.upto` lists them so (`Laws.inputs-ordered`).
+-- "shorter first, then by byte values": the order of inputs. `Numbering.upto` lists them so (`Laws.inputs_ordered`).
 pub data ByValues : List ℕ → List ℕ → Type 0 where
   lower : {b c : ℕ} {v w : List ℕ} → b < c → ByValues (b ∷ v) (c ∷ w)
   same : {b : ℕ} {v w : List ℕ} → ByValues v w → ByValues (b ∷ v) (b ∷ w)

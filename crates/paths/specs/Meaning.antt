@@ -28,7 +28,7 @@ pub record Best (A : Net) (w : List ℕ) (ms : List Move) (r : ℕ) : Type 0 whe
   pub earliest : (ns : List Move) → Stands A w ns r → (ns ≡ ms) ⊎ Earlier ms ns
 
 -- "After some input, the situation is the ordered list of RANGE, MASK and END records that admissible paths stand on, each once, by its earliest path,
--- earliest path first." There is one such list (`Best.situation-one`), here with the path to each record.
+-- earliest path first." There is one such list (`Best.situation_one`), here with the path to each record.
 pub record Situation (A : Net) (w : List ℕ) (l : List (Thread (List Move))) : Type 0 where
   pub sound : (t : Thread (List Move)) → Memᴰ t l → Stands A w t.had t.on
   pub complete : (ms : List Move) (r : ℕ) → Stands A w ms r → Memᴰ r (ons l)
@@ -49,6 +49,6 @@ unfoldable pub waiting : Net → List ℕ → List (Thread Tags)
 waiting A w = with_tags (trails A w)
 
 -- "Registers are numbered from 0 by first appearance, records in list order and tags ascending within a record."
--- This is the situation; `Registers.situation` is the same, computed byte by byte (`Laws.situation-right`).
+-- This is the situation; `Registers.situation` is the same, computed byte by byte (`Laws.situation_right`).
 unfoldable pub meant : Net → List ℕ → List (Thread Tags)
 meant A w = number (waiting A w)

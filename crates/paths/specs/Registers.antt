@@ -91,7 +91,7 @@ rename σ (s ∷ l) = record { on = s.on; had = renamed σ 0 s.had } ∷ rename 
 unfoldable pub number : List (Thread Tags) → List (Thread Tags)
 number l = rename (λ t p. index (t, p) (registers l)) l
 
--- The situation after some input, computed byte by byte; `Meaning.meant` defines it with no search (`Laws.situation-right`).
+-- The situation after some input, computed byte by byte; `Meaning.meant` defines it with no search (`Laws.situation_right`).
 unfoldable pub situation : Net → List ℕ → List (Thread Tags)
 situation A w = number (after A 0 (begin A) w)
 

@@ -7,6 +7,9 @@ ghost use Rattle.pattern.specs.Maker.{given, maker};
 use answers::{OK, OUT_SMALL, PATTERN_BIG, PATTERN_DEEP, PATTERN_FORM, PATTERN_LONG};
 use reading::Read;
 
+// The most records of an automaton, its END among them.
+const RECORDS: usize = 64;
+
 mod reading;
 mod sets;
 mod text;
@@ -47,7 +50,7 @@ pub fn pattern(text: &[u8], out: &mut [u8]) -> Made
             if end < text.len() {
                 return refuse(PATTERN_FORM, end);
             }
-            if 64 <= size {
+            if RECORDS <= size {
                 return refuse(PATTERN_BIG, 0);
             }
             if out.len() < width + 6 {

@@ -224,7 +224,8 @@ pub fn atomic(s: &[u8], at: usize, depth: usize) -> Read
     if look(s, at) != 40 {
         return lone(s, at);
     }
-    if depth == 16 {
+    let open = depth;
+    if open == 16 {
         return Read::Deep(at);
     }
     let inner = alternatives(s, at + 1, depth + 1);

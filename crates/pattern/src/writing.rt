@@ -13,6 +13,8 @@ use crate::reading::{Read, Sum, alternatives, atomic, repeated, sequence, set};
 use crate::sets::mark_set;
 use crate::text::{bars, look, stops_at};
 
+const STAR: usize = 42;
+
 // Where a piece of that many records starts that stands at n and is followed by f.
 fn start_at(size: usize, n: usize, f: usize) -> usize
     ensures { result ≡ start_at size n f }
@@ -250,7 +252,7 @@ fn emit_repeated(
     };
     let size = sum.size;
     let c = look(s, end);
-    if c == 42 {
+    if c == STAR {
         let x = start_at(size, n + 1, n);
         let a = put_fork(out, o, x, f);
         return emit_atomic(s, at, depth, out, a, n + 1, n);

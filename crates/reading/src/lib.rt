@@ -60,7 +60,7 @@ pub fn code<'a>(r: Reading<'a>, a: u8, b: u8) -> u8
     code_between(r.line, r.places, a, b)
 }
 
-// The same by plain parameters: whoever calls these needs no walk by hand.
+// The same by plain parameters.
 pub fn part_of(line: &[u8], places: [i16; 8], a: u8, b: u8) -> &[u8]
     ensures { Handed line.entry (cut_by line.now places a b) result }
 {

@@ -17,6 +17,9 @@ use ground::Place;
 use pattern::Made;
 use run::Ran;
 
+// The refusal of a pattern whose groups are too deep; it has a place.
+const DEEP: u8 = 3;
+
 // One byte at a place.
 fn put_byte(out: &mut [u8], at: usize, b: u8) -> usize
     requires { at < length out.old }
@@ -267,7 +270,7 @@ fn put_fault(out: &mut [u8], code: u8, place: usize) -> usize
     if code == 2 {
         return put_refused_at(out, 0, code, place);
     }
-    if code == 3 {
+    if code == DEEP {
         return put_refused_at(out, 0, code, place);
     }
     put_refused(out, 0, code)

@@ -61,7 +61,8 @@ fn obey(s: &[u8], e: usize, place: usize, bank: &mut [i16; 128]) -> bool
     if kind == 1 {
         return blocks::obey_block(at, place, bank);
     }
-    if s.len() <= at {
+    let list = at;
+    if s.len() <= list {
         return false;
     }
     if kind == 2 {
@@ -115,7 +116,8 @@ fn ride_rest(
         if e != row + IDLE {
             let next = e / 256 % 128 * 256;
             if next != row {
-                if limit <= next {
+                let onward = next;
+                if limit <= onward {
                     return ASTRAY;
                 }
                 row = next;

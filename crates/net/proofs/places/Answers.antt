@@ -30,9 +30,9 @@ pub loop-i-preserved : goal.loop-i-preserved
 loop-i-preserved c = let g = shown_got _ _ _ _ _ c.next_item-r.ensures c.in-Got.is in
     fill_on _ _ _ _ _ _ _ c.loop-i.invariant c.loop-i-test.true _ _ g.1
 
-pub returns-then-at-net : goal.returns-then-at-net
+pub returns-then-at-end : goal.returns-then-at-end
 unfolding number
-returns-then-at-net c = laid_none _ net_extra _ refl (fill_extra _ _ _ _ _ _ _ c.loop-i.invariant c.loop-i-test.false c.if-at-net.true) _ c.none-then-at-net.ensures
+returns-then-at-end c = laid_none _ net_extra _ refl (fill_extra _ _ _ _ _ _ _ c.loop-i.invariant c.loop-i-test.false c.if-at-end.true) _ c.none-then-at-end.ensures
 
 pub returns : goal.returns
-returns c = fill_ends _ _ _ _ _ _ _ c.loop-i.invariant c.loop-i-test.false c.if-at-net.false (λ j. (c.type_inv.net j).fits)
+returns c = fill_ends _ _ _ _ _ _ _ c.loop-i.invariant c.loop-i-test.false c.if-at-end.false (λ j. (c.type_inv.net j).fits)

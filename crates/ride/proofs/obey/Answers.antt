@@ -5,11 +5,11 @@ use Rattle.ride.proofs.obey.Goals as goal
 pub returns-then-kind-eq1 : goal.returns-then-kind-eq1
 returns-then-kind-eq1 c = obeyed_block _ _ _ _ c.if-kind-eq1.true c.obey_block.ensures
 
-pub returns-then-s-at : goal.returns-then-s-at
-returns-then-s-at c = obeyed_past _ _ _ _ c.requires.0 c.if-kind-eq1.false c.if-s-at.true
+pub returns-then-s-list : goal.returns-then-s-list
+returns-then-s-list c = obeyed_past _ _ _ _ c.requires.0 c.if-kind-eq1.false c.if-s-list.true
 
 pub returns-then-kind-eq2 : goal.returns-then-kind-eq2
-returns-then-kind-eq2 c = obeyed_sets _ _ _ _ c.requires.0 c.if-kind-eq1.false c.if-s-at.false c.if-kind-eq2.true c.set_list.ensures
+returns-then-kind-eq2 c = obeyed_sets _ _ _ _ c.requires.0 c.if-kind-eq1.false c.if-s-list.false c.if-kind-eq2.true c.set_list.ensures
 
 pub returns : goal.returns
-returns c = obeyed_all _ _ _ _ c.requires.0 c.if-kind-eq1.false c.if-s-at.false c.if-kind-eq2.false c.carry_list.ensures
+returns c = obeyed_all _ _ _ _ c.requires.0 c.if-kind-eq1.false c.if-s-list.false c.if-kind-eq2.false c.carry_list.ensures

@@ -9,7 +9,7 @@ use mir.ValLaws.{to_z-of_z}
 use Rattle.ground.proofs.Places.{place_fits}
 use Rattle.ride.proofs.Riding.{in_image, went_on, went_round, going_none, going_ends, going_stay, going_astray, going_one, going_obeyed, going_missed}
 use Rattle.ride.proofs.ride_rest.Goals as goal
-use Rattle.ride.proofs.ride_rest.Goals.{then-next-row+else-limit-next, else-next-row}
+use Rattle.ride.proofs.ride_rest.Goals.{then-next-row+else-limit-onward, else-next-row}
 
 pub loop-i-init : goal.loop-i-init
 loop-i-init c = going_none c.requires.0 c.requires.1.standing c.requires.1.within
@@ -29,8 +29,8 @@ overflow_add-i c = omega (arith, c.loop-i-test.true, c.requires.1.short)
 pub overflow_add-row-in-loop-i : goal.overflow_add-row-in-loop-i
 overflow_add-row-in-loop-i c = omega (arith, c.loop-i.invariant.standing.small)
 
-pub returns-then-limit-next : goal.returns-then-limit-next
-returns-then-limit-next c = (going_astray c.requires.0 c.loop-i.invariant c.word-e.result c.loop-i-test.true c.wide-b.ensures c.word-e.ensures c.if-limit-next.true 32768 c.loop-i.bank refl, inl refl)
+pub returns-then-limit-onward : goal.returns-then-limit-onward
+returns-then-limit-onward c = (going_astray c.requires.0 c.loop-i.invariant c.word-e.result c.loop-i-test.true c.wide-b.ensures c.word-e.ensures c.if-limit-onward.true 32768 c.loop-i.bank refl, inl refl)
 
 pub held-v-requires : goal.held-v-requires
 held-v-requires c = omega (arith, c.loop-i-test.true, c.requires.1.short)
@@ -41,7 +41,7 @@ loop-i-preserved-then-e-lt-LISTED c =
     rw (c.held-v.ensures, to_z-of_z w16 (pos place) (place_fits place (omega (arith, c.loop-i-test.true, c.requires.1.short))))
     (going_one c.requires.0 c.loop-i.invariant c.word-e.result c.loop-i-test.true c.wide-b.ensures c.word-e.ensures
     (elim c.if-next-row.branch [
-      | then-next-row+else-limit-next v ↦ went_on c.loop-i.invariant.standing c.word-e.result v.if-limit-next.false v.row-is
+      | then-next-row+else-limit-onward v ↦ went_on c.loop-i.invariant.standing c.word-e.result v.if-limit-onward.false v.row-is
       | else-next-row v ↦ went_round c.loop-i.invariant.standing c.word-e.result v.if-next-row.false v.row-is
     ])
     c.if-e-lt-LISTED.true refl)
@@ -53,7 +53,7 @@ pub returns-then-not-obey : goal.returns-then-not-obey
 returns-then-not-obey c = (
   going_missed c.requires.0 c.loop-i.invariant c.word-e.result c.loop-i-test.true c.wide-b.ensures c.word-e.ensures {there = c.if-next-row.row}
       (elim c.if-next-row.branch [
-        | then-next-row+else-limit-next v ↦ went_on c.loop-i.invariant.standing c.word-e.result v.if-limit-next.false v.row-is
+        | then-next-row+else-limit-onward v ↦ went_on c.loop-i.invariant.standing c.word-e.result v.if-limit-onward.false v.row-is
         | else-next-row v ↦ went_round c.loop-i.invariant.standing c.word-e.result v.if-next-row.false v.row-is
       ])
       c.obey.ensures c.if-not-obey.true 32768 refl,
@@ -64,7 +64,7 @@ pub loop-i-preserved-else-not-obey : goal.loop-i-preserved-else-not-obey
 loop-i-preserved-else-not-obey c =
     going_obeyed c.requires.0 c.loop-i.invariant c.word-e.result c.loop-i-test.true c.wide-b.ensures c.word-e.ensures
     (elim c.if-next-row.branch [
-      | then-next-row+else-limit-next v ↦ went_on c.loop-i.invariant.standing c.word-e.result v.if-limit-next.false v.row-is
+      | then-next-row+else-limit-onward v ↦ went_on c.loop-i.invariant.standing c.word-e.result v.if-limit-onward.false v.row-is
       | else-next-row v ↦ went_round c.loop-i.invariant.standing c.word-e.result v.if-next-row.false v.row-is
     ])
     c.obey.ensures c.if-not-obey.false

@@ -43,8 +43,8 @@ atomic-lone-requires t c = c.requires.0
 pub atomic-returns-then-look-ne40 : goal.atomic-returns-then-look-ne40
 atomic-returns-then-look-ne40 t c = atom_lonely c.args.s.now c.args.depth c.args.at c.requires.0 c.lone.result (λ x. c.if-look-ne40.true (c.look.ensures ∙ x)) c.lone.ensures
 
-pub atomic-returns-then-depth-eq16 : goal.atomic-returns-then-depth-eq16
-atomic-returns-then-depth-eq16 t c = let b = sym c.look.ensures ∙ c.if-look-ne40.false in let k = byte_of c.args.s.now c.args.at 40 (omega arith) b in atom_too_deep c.args.s.now c.args.depth c.args.at c.requires.0 b c.if-depth-eq16.true
+pub atomic-returns-then-open-eq16 : goal.atomic-returns-then-open-eq16
+atomic-returns-then-open-eq16 t c = let b = sym c.look.ensures ∙ c.if-look-ne40.false in let k = byte_of c.args.s.now c.args.at 40 (omega arith) b in atom_too_deep c.args.s.now c.args.depth c.args.at c.requires.0 b c.if-open-eq16.true
 
 pub atomic-overflow_add-at : goal.atomic-overflow_add-at
 atomic-overflow_add-at t c = omega (arith, c.well_formed)
@@ -56,16 +56,16 @@ pub atomic-alternatives-inner-requires : goal.atomic-alternatives-inner-requires
 atomic-alternatives-inner-requires t c = let b = sym c.look.ensures ∙ c.if-look-ne40.false in let k = byte_of c.args.s.now c.args.at 40 (omega arith) b in omega (arith, c.requires)
 
 pub atomic-returns-in_default : goal.atomic-returns-in_default
-atomic-returns-in_default t c = let b = sym c.look.ensures ∙ c.if-look-ne40.false in let k = byte_of c.args.s.now c.args.at 40 (omega arith) b in atom_refused c.args.s.now c.args.depth c.args.at c.requires.0 b c.if-depth-eq16.false c.alternatives-inner.result (not_ok c.alternatives-inner.result c.in_default.not-Ok) c.alternatives-inner.ensures
+atomic-returns-in_default t c = let b = sym c.look.ensures ∙ c.if-look-ne40.false in let k = byte_of c.args.s.now c.args.at 40 (omega arith) b in atom_refused c.args.s.now c.args.depth c.args.at c.requires.0 b c.if-open-eq16.false c.alternatives-inner.result (not_ok c.alternatives-inner.result c.in_default.not-Ok) c.alternatives-inner.ensures
 
 pub atomic-returns-then-look-ne41 : goal.atomic-returns-then-look-ne41
-atomic-returns-then-look-ne41 t c = let b = sym c.look.ensures ∙ c.if-look-ne40.false in let k = byte_of c.args.s.now c.args.at 40 (omega arith) b in let q = sym c.in-Ok.is ∙ c.alternatives-inner.ensures in atom_unclosed c.args.s.now c.args.depth c.args.at c.requires.0 b c.if-depth-eq16.false c.in-Ok.end c.in-Ok.sum q (λ x. c.if-look-ne41.true (c.look-2.ensures ∙ x))
+atomic-returns-then-look-ne41 t c = let b = sym c.look.ensures ∙ c.if-look-ne40.false in let k = byte_of c.args.s.now c.args.at 40 (omega arith) b in let q = sym c.in-Ok.is ∙ c.alternatives-inner.ensures in atom_unclosed c.args.s.now c.args.depth c.args.at c.requires.0 b c.if-open-eq16.false c.in-Ok.end c.in-Ok.sum q (λ x. c.if-look-ne41.true (c.look-2.ensures ∙ x))
 
 pub atomic-overflow_add-result : goal.atomic-overflow_add-result
 atomic-overflow_add-result t c = let q = sym c.in-Ok.is ∙ c.alternatives-inner.ensures in let j = byte_of c.args.s.now c.in-Ok.end 41 (omega arith) (sym c.look-2.ensures ∙ c.if-look-ne41.false) in omega (arith, c.well_formed)
 
 pub atomic-returns : goal.atomic-returns
-atomic-returns t c = let b = sym c.look.ensures ∙ c.if-look-ne40.false in let k = byte_of c.args.s.now c.args.at 40 (omega arith) b in let q = sym c.in-Ok.is ∙ c.alternatives-inner.ensures in atom_done c.args.s.now c.args.depth c.args.at c.requires.0 b c.if-depth-eq16.false c.in-Ok.end c.in-Ok.sum q (sym c.look-2.ensures ∙ c.if-look-ne41.false)
+atomic-returns t c = let b = sym c.look.ensures ∙ c.if-look-ne40.false in let k = byte_of c.args.s.now c.args.at 40 (omega arith) b in let q = sym c.in-Ok.is ∙ c.alternatives-inner.ensures in atom_done c.args.s.now c.args.depth c.args.at c.requires.0 b c.if-open-eq16.false c.in-Ok.end c.in-Ok.sum q (sym c.look-2.ensures ∙ c.if-look-ne41.false)
 
 pub repeated-returns-in_default : goal.repeated-returns-in_default
 repeated-returns-in_default t c = piece_refused c.args.s.now c.args.depth c.args.at c.requires.0 c.atomic-one.result (not_ok c.atomic-one.result c.in_default.not-Ok) c.atomic-one.ensures
