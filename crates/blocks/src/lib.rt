@@ -95,7 +95,7 @@ pub fn obey_block(w: usize, place: usize, bank: &mut [i16; 128]) -> bool
     let f = w / 131072;
     let n = w / 2048 % 64;
     let to = a + k;
-    if 64 < to + n {
+    if REGISTERS < to + n {
         return false;
     }
     let highest = to;

@@ -19,10 +19,10 @@ use Rattle.paths.proofs.Same.{lift_end}
 use Rattle.paths.proofs.Bridge.{at_place, answer_after}
 use Rattle.paths.proofs.Next.{held_step, step_rename, number_below, as_many_registers, situations}
 
-get_d_map_lt : {A B : Type 0} (f : A → B) (l : List A) (i : ℕ) (d : A) (e : B) → i < length l → get_or (map f l) i e ≡ f (get_or l i d)
-get_d_map_lt f [] i d e h = absurd (not-suc-le-zero h)
-get_d_map_lt f (x ∷ l) zero d e h = refl
-get_d_map_lt f (x ∷ l) (suc i) d e h = get_d_map_lt f l i d e (le_of_suc-le-suc h)
+get_or_map_lt : {A B : Type 0} (f : A → B) (l : List A) (i : ℕ) (d : A) (e : B) → i < length l → get_or (map f l) i e ≡ f (get_or l i d)
+get_or_map_lt f [] i d e h = absurd (not-suc-le-zero h)
+get_or_map_lt f (x ∷ l) zero d e h = refl
+get_or_map_lt f (x ∷ l) (suc i) d e h = get_or_map_lt f l i d e (le_of_suc-le-suc h)
 
 -- the numbers, and the place of each, give the list back
 pub decode : (l : List (Thread Tags)) → rename (λ t i. get_or (map (λ k. k.1) (registers l)) i 0) (number l) ≡ l
@@ -30,7 +30,7 @@ unfolding number
 decode l =
     rename_rename (λ t i. get_or (map (λ k. k.1) (registers l)) i 0) (λ t p. index (t, p) (registers l)) l
     ∙ rename_same (λ t p. get_or (map (λ k. k.1) (registers l)) (index (t, p) (registers l)) 0) (λ t p. p) l
-    (λ k m. let r = register_at l k m in get_d_map_lt (λ k. k.1) (registers l) (index k (registers l)) (0, 0) 0 r.0 ∙ ap (λ v. v.1) r.1)
+    (λ k m. let r = register_at l k m in get_or_map_lt (λ k. k.1) (registers l) (index k (registers l)) (0, 0) 0 r.0 ∙ ap (λ v. v.1) r.1)
     ∙ rename_self l
 
 fetch_new : (now count : ℕ) (bank : List ℕ) → fetch now count bank count ≡ now
@@ -54,7 +54,7 @@ pub feed_shown : (A : Net) (now b : ℕ) (s : State) → Sound s → shown (feed
 unfolding feed next origins
 feed_shown A now b s h =
     rename_same (λ t r. get_or (map f os) r 0) (λ t r. f (get_or os r 0)) (number X)
-    (λ k m. get_d_map_lt f os k.1 0 0 (rw (length-map (registers X) (λ k. k.1)) (number_below X k m)))
+    (λ k m. get_or_map_lt f os k.1 0 0 (rw (length-map (registers X) (λ k. k.1)) (number_below X k m)))
     ∙ sym (rename_rename (λ t. f) (λ t r. get_or os r 0) (number X))
     ∙ ap (λ l. rename (λ t. f) l) (decode X)
     ∙ sym (step_rename (λ t. f) R now (λ t. fetch_new now R s.bank) A b s.sit)
