@@ -7,6 +7,9 @@ ghost use Rattle.run.specs.Carry.{carry};
 ghost use Rattle.image.specs.Image.{puts, moves};
 ghost use Rattle.blocks.specs.Blocked.{Held, Blocked};
 
+// How many registers there are: a block that names more is none.
+const REGISTERS: usize = 64;
+
 // What the eight registers from f on hold.
 fn eight_at(bank: &[i16; 128], f: usize) -> [i16; 8]
     requires { f + 8 ≤ 64 }

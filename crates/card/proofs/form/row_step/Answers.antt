@@ -1,9 +1,6 @@
 -- `card::form::row_step` meets its contract: each return by the tests that led there. Assumes nothing.
 use Prim.Native.Nat.{◌+◌}
 use native.Mathlib.Omega.{arith}
-use borrow.Author.Tests.{eq-eqb, le-leb, le-ltb, lt-leb, lt-ltb, ne_eqb}
-use Rattle.ground.specs.Pick.{pick}
-use Rattle.card.specs.Form.{row_step}
 use Rattle.card.proofs.form.row_step.Goals as goal
 
 pub overflow_cast-from : goal.overflow_cast-from
