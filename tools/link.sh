@@ -9,7 +9,7 @@ for crate in "$@"; do
   tagline) step=run made=crates/tagline/out/tagline kept=target/bin/tagline ;;
   *) echo "link: export or tagline" >&2; exit 2 ;;
   esac
-  if [ ! -f "$kept" ] || [ -n "$(find crates crates.txt -name out -prune -o -type f -newer "$kept" -print -quit)" ]; then
+  if [ ! -f "$kept" ] || [ -n "$(find crates crates.txt -name out -prune -o -newer "$kept" -print -quit)" ]; then
     (cd "crates/$crate" && rt "$step" </dev/null >&2)
     mkdir -p "$(dirname "$kept")"
     cp "$made" "$kept"
