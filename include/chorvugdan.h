@@ -2,7 +2,7 @@
  * Chorvugdan: a tagged pattern matcher for payload-scale feeds.
  *
  * Pattern text -> automaton file ("net") -> table file ("card") -> run of the card over a line.
- * Link with target/staticlib/libexport.a, which `rt staticlib export` writes. Every call is proved
+ * Link with target/staticlib/libexport.a, which `tools/link.sh export` writes. Every call is proved
  * to keep the promise beside it for all inputs; none allocates, keeps state or looks past a length.
  *
  * The caller's part, which no proof can see: a pointer is not null (also where its length is 0),

@@ -7,8 +7,8 @@ ghost use Rattle.run.specs.Carry.{carry};
 ghost use Rattle.image.specs.Image.{puts, moves};
 ghost use Rattle.blocks.specs.Blocked.{Held, Blocked};
 
-// How many registers there are: a block that names more is none.
-const REGISTERS: usize = 64;
+// How many registers the bank has: a block that goes past them is none.
+const BANK: usize = 64;
 
 // What the eight registers from f on hold.
 fn eight_at(bank: &[i16; 128], f: usize) -> [i16; 8]
@@ -98,9 +98,10 @@ pub fn obey_block(w: usize, place: usize, bank: &mut [i16; 128]) -> bool
     let f = w / 131072;
     let n = w / 2048 % 64;
     let to = a + k;
-    if REGISTERS < to + n {
+    if BANK < to + n {
         return false;
     }
+    // the highest source that the MOVEs may have: above it they would read what they stored
     let highest = to;
     if highest < f {
         return false;

@@ -18,10 +18,10 @@ ghost use Rattle.build.specs.Build.{refusal, Makes, Attempts, Builds};
 use answers::{OUT_SMALL, WORK_SMALL};
 use explore::Closing;
 
-// How many bytes of work memory a build takes.
-const WORK: usize = 65536;
-
 // From an automaton file to a table file, in lent work memory.
+
+// How many bytes of work memory a build needs at least.
+const WORK: usize = 65536;
 
 // ---- commands
 

@@ -18,12 +18,12 @@ ghost use Rattle.explore.specs.Visit.{Ready, Means};
 
 use answers::{REGISTERS, SITUATIONS};
 
-// The most situations that a table has.
-const MOST: usize = 96;
-
 // From the records of an automaton file to its situations, in the lent work memory. A situation under way is a list of its
 // own in the shape of a slot: 578 bytes, changed in place, as the marks and the registers are.
 // What the public functions ask is shown by `build`: `Formed` comes from the reader of the file, `Kept` from the exploration.
+
+// The most situations that a table has.
+const MOST_SITUATIONS: usize = 96;
 
 // One thread: the record that it stands on, and for each tag 255 or where its place comes from.
 #[derive(Clone, Copy)]
@@ -536,7 +536,7 @@ fn try_byte(file: &[u8], offs: &[usize], work: &mut [u8], s: &[u8], count: usize
     if j < count {
         return Tried { answer: 0, count };
     }
-    if MOST <= count {
+    if MOST_SITUATIONS <= count {
         return Tried {
             answer: SITUATIONS,
             count,

@@ -224,7 +224,7 @@ module _ (A : Net) where
   pub refused_exactly : (r : ℕ) → (r ≡ 0 → (n : ℕ) × Closes A n) → (r ≡ 10 → Stops A TooManyRegisters) → (r ≡ 11 → Stops A TooManySituations)
       → ((r ≡ 0 → ⊥) → (r ≡ 10 → ⊥) → r ≡ 11)
       → ((r ≡ 10) ↔ OverRegisters A) × (((r ≡ 11) ↔ (OverSituations A × (¬ OverRegisters A))) × ((r ≡ 0) ↔ ((¬ OverRegisters A) × (¬ OverSituations A))))
-  refused_exactly r zero_closes ten eleven one_of_lem = (
+  refused_exactly r zero_closes ten eleven one_of = (
     (λ e. limits.stop_registers A (ten e), λ o. is_ten o (equal_or_not r 0) (equal_or_not r 10)),
     (
       (λ e. limits.stop_situations A (eleven e), λ o. is_eleven o (equal_or_not r 0) (equal_or_not r 10)),
@@ -235,17 +235,17 @@ module _ (A : Net) where
       is_ten : OverRegisters A → (r ≡ 0) ⊎ (¬ (r ≡ 0)) → (r ≡ 10) ⊎ (¬ (r ≡ 10)) → r ≡ 10
       is_ten o (inl e) q = absurd (limits.closes_registers A (zero_closes e).1 o)
       is_ten o (inr e) (inl q) = q
-      is_ten o (inr e) (inr q) = absurd ((limits.stop_situations A (eleven (one_of_lem e q))).1 o)
+      is_ten o (inr e) (inr q) = absurd ((limits.stop_situations A (eleven (one_of e q))).1 o)
 
       is_eleven : OverSituations A × (¬ OverRegisters A) → (r ≡ 0) ⊎ (¬ (r ≡ 0)) → (r ≡ 10) ⊎ (¬ (r ≡ 10)) → r ≡ 11
       is_eleven o (inl e) q = absurd (limits.closes_situations A (zero_closes e).1 o.0)
       is_eleven o (inr e) (inl q) = absurd (o.1 (limits.stop_registers A (ten q)))
-      is_eleven o (inr e) (inr q) = one_of_lem e q
+      is_eleven o (inr e) (inr q) = one_of e q
 
       is_zero : (¬ OverRegisters A) × (¬ OverSituations A) → (r ≡ 0) ⊎ (¬ (r ≡ 0)) → (r ≡ 10) ⊎ (¬ (r ≡ 10)) → r ≡ 0
       is_zero o (inl e) q = e
       is_zero o (inr e) (inl q) = absurd (o.0 (limits.stop_registers A (ten q)))
-      is_zero o (inr e) (inr q) = absurd (o.1 (limits.stop_situations A (eleven (one_of_lem e q))).0)
+      is_zero o (inr e) (inr q) = absurd (o.1 (limits.stop_situations A (eleven (one_of e q))).0)
 
 -- the inputs of at most n bytes are listed "shorter first, then by byte values"
 pub inputs_ordered : (n : ℕ) → Ordered Before (upto (bytes 0 256) n)

@@ -13,7 +13,12 @@ use crate::reading::{Read, Sum, alternatives, atomic, repeated, sequence, set};
 use crate::sets::mark_set;
 use crate::text::{bars, look, stops_at};
 
+// What makes a piece repeat: `*`, `+` and `?`.
 const STAR: usize = 42;
+
+const PLUS: usize = 43;
+
+const QUERY: usize = 63;
 
 // Where a piece of that many records starts that stands at n and is followed by f.
 fn start_at(size: usize, n: usize, f: usize) -> usize
@@ -257,12 +262,12 @@ fn emit_repeated(
         let a = put_fork(out, o, x, f);
         return emit_atomic(s, at, depth, out, a, n + 1, n);
     }
-    if c == 43 {
+    if c == PLUS {
         let x = start_at(size, n, n + size);
         let a = emit_atomic(s, at, depth, out, o, n, n + size);
         return put_fork(out, a, x, f);
     }
-    if c == 63 {
+    if c == QUERY {
         let x = start_at(size, n + 1, f);
         let a = put_fork(out, o, x, f);
         return emit_atomic(s, at, depth, out, a, n + 1, f);

@@ -17,7 +17,9 @@ use ground::Place;
 use pattern::Made;
 use run::Ran;
 
-// The refusal of a pattern whose groups are too deep; it has a place.
+// The refusals of a pattern that have a place.
+const FORM: u8 = 2;
+
 const DEEP: u8 = 3;
 
 // One byte at a place.
@@ -267,7 +269,7 @@ fn put_fault(out: &mut [u8], code: u8, place: usize) -> usize
     requires { 27 ≤ length out.old }
     ensures { Wrote out.old out.new 0 result (fault_line code place) }
 {
-    if code == 2 {
+    if code == FORM {
         return put_refused_at(out, 0, code, place);
     }
     if code == DEEP {

@@ -19,20 +19,20 @@ place-j-requires c = (omega (arith, c.requires.kept.room, c.requires.kept.most),
 pub returns-then-j-count : goal.returns-then-j-count
 returns-then-j-count c = tried_old _ _ _ _ _ _ c.requires.kept _ _ _ c.next_of-k.ensures c.if-k-gt64.false _ c.place-j.ensures c.if-j-count.true
 
-pub returns-then-count-ge-MOST : goal.returns-then-count-ge-MOST
-returns-then-count-ge-MOST c = tried_full _ _ _ _ _ _ c.requires.kept _ _ _ c.next_of-k.ensures c.if-k-gt64.false _ c.place-j.ensures c.if-j-count.false c.if-count-ge-MOST.true
+pub returns-then-count-ge-MOST_SITUATIONS : goal.returns-then-count-ge-MOST_SITUATIONS
+returns-then-count-ge-MOST_SITUATIONS c = tried_full _ _ _ _ _ _ c.requires.kept _ _ _ c.next_of-k.ensures c.if-k-gt64.false _ c.place-j.ensures c.if-j-count.false c.if-count-ge-MOST_SITUATIONS.true
 
 pub slice_bounds-store-end : goal.slice_bounds-store-end
 slice_bounds-store-end c = sym c.next_of-k.ensures.is.fit.size
 
 pub store-requires : goal.store-requires
-store-requires c = (c.next_of-k.ensures.is.fit.size, (c.next_of-k.ensures.is.fit.few, omega (arith, c.requires.kept.room, c.if-count-ge-MOST.false)))
+store-requires c = (c.next_of-k.ensures.is.fit.size, (c.next_of-k.ensures.is.fit.few, omega (arith, c.requires.kept.room, c.if-count-ge-MOST_SITUATIONS.false)))
 
 pub overflow_add-result : goal.overflow_add-result
-overflow_add-result c = omega (arith, c.if-count-ge-MOST.false)
+overflow_add-result c = omega (arith, c.if-count-ge-MOST_SITUATIONS.false)
 
 pub shape_of-work : goal.shape_of-work
 shape_of-work c = c.store.ensures.size
 
 pub returns : goal.returns
-returns c = tried_new _ _ _ _ _ _ c.requires.kept _ _ _ c.next_of-k.ensures c.if-k-gt64.false _ c.place-j.ensures c.if-j-count.false c.if-count-ge-MOST.false _ c.store.ensures
+returns c = tried_new _ _ _ _ _ _ c.requires.kept _ _ _ c.next_of-k.ensures c.if-k-gt64.false _ c.place-j.ensures c.if-j-count.false c.if-count-ge-MOST_SITUATIONS.false _ c.store.ensures

@@ -1,4 +1,4 @@
--- `card::form::row_step` meets its contract: each return by the tests that led there. Assumes nothing.
+-- `card::form::row_step`: its casts and sums lose nothing. Each return follows by the tests that led there, which the check finds. Assumes nothing.
 use Prim.Native.Nat.{◌+◌}
 use native.Mathlib.Omega.{arith}
 use Rattle.card.proofs.form.row_step.Goals as goal

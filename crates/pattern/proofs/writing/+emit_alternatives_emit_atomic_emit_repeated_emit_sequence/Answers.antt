@@ -146,48 +146,48 @@ emit_repeated-shape_of-out-then-c-eq-STAR t c = c.emit_atomic.auto.out ∙ c.put
 pub emit_repeated-returns-then-c-eq-STAR : goal.emit_repeated-returns-then-c-eq-STAR
 emit_repeated-returns-then-c-eq-STAR t c = let q = sym c.in-Ok.is ∙ c.atomic-one.ensures in let g = far c.args.s.now c.args.depth c.args.at c.requires.0 atom c.in-Ok.end c.in-Ok.sum q in let x₁ = is_inv (read c.args.s.now atom c.args.depth c.args.at) c.in-Ok.end c.in-Ok.sum q in let x = piece_is_star c.args.s.now c.args.depth c.args.at c.requires.0 c.in-Ok.end c.in-Ok.sum q (sym c.look-c.ensures ∙ c.if-c-eq-STAR.true) in wrote_whole _ _ _ _ _ _ (star_coded (read c.args.s.now piece c.args.depth c.args.at) (read c.args.s.now atom c.args.depth c.args.at) (inv (read c.args.s.now atom c.args.depth c.args.at) q).pat x₁ c.args.n c.args.f c.in-Ok.sum.size (sized_of (read c.args.s.now atom c.args.depth c.args.at) q) x) (chained _ _ _ _ _ _ _ _ (forked _ _ _ _ _ _ _ _ c.start_at-x.ensures refl c.put_fork-a.ensures) c.emit_atomic.ensures)
 
-pub emit_repeated-overflow_add-n-then-c-eq43 : goal.emit_repeated-overflow_add-n-then-c-eq43
-emit_repeated-overflow_add-n-then-c-eq43 t c = let q = sym c.in-Ok.is ∙ c.atomic-one.ensures in let g = far c.args.s.now c.args.depth c.args.at c.requires.0 atom c.in-Ok.end c.in-Ok.sum q in let x₁ = is_inv (read c.args.s.now atom c.args.depth c.args.at) c.in-Ok.end c.in-Ok.sum q in omega (arith, g, c.well_formed)
+pub emit_repeated-overflow_add-n-then-c-eq-PLUS : goal.emit_repeated-overflow_add-n-then-c-eq-PLUS
+emit_repeated-overflow_add-n-then-c-eq-PLUS t c = let q = sym c.in-Ok.is ∙ c.atomic-one.ensures in let g = far c.args.s.now c.args.depth c.args.at c.requires.0 atom c.in-Ok.end c.in-Ok.sum q in let x₁ = is_inv (read c.args.s.now atom c.args.depth c.args.at) c.in-Ok.end c.in-Ok.sum q in omega (arith, g, c.well_formed)
 
-pub emit_repeated-overflow_add-n-then-c-eq43-2 : goal.emit_repeated-overflow_add-n-then-c-eq43-2
-emit_repeated-overflow_add-n-then-c-eq43-2 t c = let q = sym c.in-Ok.is ∙ c.atomic-one.ensures in let g = far c.args.s.now c.args.depth c.args.at c.requires.0 atom c.in-Ok.end c.in-Ok.sum q in let x₁ = is_inv (read c.args.s.now atom c.args.depth c.args.at) c.in-Ok.end c.in-Ok.sum q in omega (arith, g, c.well_formed)
+pub emit_repeated-overflow_add-n-then-c-eq-PLUS-2 : goal.emit_repeated-overflow_add-n-then-c-eq-PLUS-2
+emit_repeated-overflow_add-n-then-c-eq-PLUS-2 t c = let q = sym c.in-Ok.is ∙ c.atomic-one.ensures in let g = far c.args.s.now c.args.depth c.args.at c.requires.0 atom c.in-Ok.end c.in-Ok.sum q in let x₁ = is_inv (read c.args.s.now atom c.args.depth c.args.at) c.in-Ok.end c.in-Ok.sum q in omega (arith, g, c.well_formed)
 
 pub emit_repeated-emit_atomic-a-requires : goal.emit_repeated-emit_atomic-a-requires
-emit_repeated-emit_atomic-a-requires t c = let q = sym c.in-Ok.is ∙ c.atomic-one.ensures in let g = far c.args.s.now c.args.depth c.args.at c.requires.0 atom c.in-Ok.end c.in-Ok.sum q in let x₁ = is_inv (read c.args.s.now atom c.args.depth c.args.at) c.in-Ok.end c.in-Ok.sum q in let x = piece_is_plus c.args.s.now c.args.depth c.args.at c.requires.0 c.in-Ok.end c.in-Ok.sum q (λ z. c.if-c-eq-STAR.false (c.look-c.ensures ∙ z)) (sym c.look-c.ensures ∙ c.if-c-eq43.true) in (omega arith, (c.requires.0, c.requires.1, c.requires.2, plus_first (read c.args.s.now piece c.args.depth c.args.at) (read c.args.s.now atom c.args.depth c.args.at) (inv (read c.args.s.now atom c.args.depth c.args.at) q).pat x₁ c.args.n c.args.f c.in-Ok.sum.size (sized_of (read c.args.s.now atom c.args.depth c.args.at) q) x c.args.o (length c.args.out.now) c.requires.3))
+emit_repeated-emit_atomic-a-requires t c = let q = sym c.in-Ok.is ∙ c.atomic-one.ensures in let g = far c.args.s.now c.args.depth c.args.at c.requires.0 atom c.in-Ok.end c.in-Ok.sum q in let x₁ = is_inv (read c.args.s.now atom c.args.depth c.args.at) c.in-Ok.end c.in-Ok.sum q in let x = piece_is_plus c.args.s.now c.args.depth c.args.at c.requires.0 c.in-Ok.end c.in-Ok.sum q (λ z. c.if-c-eq-STAR.false (c.look-c.ensures ∙ z)) (sym c.look-c.ensures ∙ c.if-c-eq-PLUS.true) in (omega arith, (c.requires.0, c.requires.1, c.requires.2, plus_first (read c.args.s.now piece c.args.depth c.args.at) (read c.args.s.now atom c.args.depth c.args.at) (inv (read c.args.s.now atom c.args.depth c.args.at) q).pat x₁ c.args.n c.args.f c.in-Ok.sum.size (sized_of (read c.args.s.now atom c.args.depth c.args.at) q) x c.args.o (length c.args.out.now) c.requires.3))
 
 pub emit_repeated-put_fork-requires : goal.emit_repeated-put_fork-requires
-emit_repeated-put_fork-requires t c = let q = sym c.in-Ok.is ∙ c.atomic-one.ensures in let g = far c.args.s.now c.args.depth c.args.at c.requires.0 atom c.in-Ok.end c.in-Ok.sum q in let x₁ = is_inv (read c.args.s.now atom c.args.depth c.args.at) c.in-Ok.end c.in-Ok.sum q in let x = piece_is_plus c.args.s.now c.args.depth c.args.at c.requires.0 c.in-Ok.end c.in-Ok.sum q (λ z. c.if-c-eq-STAR.false (c.look-c.ensures ∙ z)) (sym c.look-c.ensures ∙ c.if-c-eq43.true) in
-    let y = plus_fork (read c.args.s.now piece c.args.depth c.args.at) (read c.args.s.now atom c.args.depth c.args.at) (inv (read c.args.s.now atom c.args.depth c.args.at) q).pat x₁ c.args.n c.args.f c.in-Ok.sum.size (sized_of (read c.args.s.now atom c.args.depth c.args.at) q) x c.args.o (length c.args.out.now) c.requires.3 in (omega arith, below _ _ 256 c.start_at-x-then-c-eq43.ensures y.1, y.2)
+emit_repeated-put_fork-requires t c = let q = sym c.in-Ok.is ∙ c.atomic-one.ensures in let g = far c.args.s.now c.args.depth c.args.at c.requires.0 atom c.in-Ok.end c.in-Ok.sum q in let x₁ = is_inv (read c.args.s.now atom c.args.depth c.args.at) c.in-Ok.end c.in-Ok.sum q in let x = piece_is_plus c.args.s.now c.args.depth c.args.at c.requires.0 c.in-Ok.end c.in-Ok.sum q (λ z. c.if-c-eq-STAR.false (c.look-c.ensures ∙ z)) (sym c.look-c.ensures ∙ c.if-c-eq-PLUS.true) in
+    let y = plus_fork (read c.args.s.now piece c.args.depth c.args.at) (read c.args.s.now atom c.args.depth c.args.at) (inv (read c.args.s.now atom c.args.depth c.args.at) q).pat x₁ c.args.n c.args.f c.in-Ok.sum.size (sized_of (read c.args.s.now atom c.args.depth c.args.at) q) x c.args.o (length c.args.out.now) c.requires.3 in (omega arith, below _ _ 256 c.start_at-x-then-c-eq-PLUS.ensures y.1, y.2)
 
-pub emit_repeated-shape_of-out-then-c-eq43 : goal.emit_repeated-shape_of-out-then-c-eq43
-emit_repeated-shape_of-out-then-c-eq43 t c = c.put_fork.auto.out ∙ c.emit_atomic-a.auto.out
+pub emit_repeated-shape_of-out-then-c-eq-PLUS : goal.emit_repeated-shape_of-out-then-c-eq-PLUS
+emit_repeated-shape_of-out-then-c-eq-PLUS t c = c.put_fork.auto.out ∙ c.emit_atomic-a.auto.out
 
-pub emit_repeated-returns-then-c-eq43 : goal.emit_repeated-returns-then-c-eq43
-emit_repeated-returns-then-c-eq43 t c = let q = sym c.in-Ok.is ∙ c.atomic-one.ensures in let g = far c.args.s.now c.args.depth c.args.at c.requires.0 atom c.in-Ok.end c.in-Ok.sum q in let x₁ = is_inv (read c.args.s.now atom c.args.depth c.args.at) c.in-Ok.end c.in-Ok.sum q in let x = piece_is_plus c.args.s.now c.args.depth c.args.at c.requires.0 c.in-Ok.end c.in-Ok.sum q (λ z. c.if-c-eq-STAR.false (c.look-c.ensures ∙ z)) (sym c.look-c.ensures ∙ c.if-c-eq43.true) in wrote_whole _ _ _ _ _ _ (plus_coded (read c.args.s.now piece c.args.depth c.args.at) (read c.args.s.now atom c.args.depth c.args.at) (inv (read c.args.s.now atom c.args.depth c.args.at) q).pat x₁ c.args.n c.args.f c.in-Ok.sum.size (sized_of (read c.args.s.now atom c.args.depth c.args.at) q) x) (chained _ _ _ _ _ _ _ _ c.emit_atomic-a.ensures (forked _ _ _ _ _ _ _ _ c.start_at-x-then-c-eq43.ensures refl c.put_fork.ensures))
+pub emit_repeated-returns-then-c-eq-PLUS : goal.emit_repeated-returns-then-c-eq-PLUS
+emit_repeated-returns-then-c-eq-PLUS t c = let q = sym c.in-Ok.is ∙ c.atomic-one.ensures in let g = far c.args.s.now c.args.depth c.args.at c.requires.0 atom c.in-Ok.end c.in-Ok.sum q in let x₁ = is_inv (read c.args.s.now atom c.args.depth c.args.at) c.in-Ok.end c.in-Ok.sum q in let x = piece_is_plus c.args.s.now c.args.depth c.args.at c.requires.0 c.in-Ok.end c.in-Ok.sum q (λ z. c.if-c-eq-STAR.false (c.look-c.ensures ∙ z)) (sym c.look-c.ensures ∙ c.if-c-eq-PLUS.true) in wrote_whole _ _ _ _ _ _ (plus_coded (read c.args.s.now piece c.args.depth c.args.at) (read c.args.s.now atom c.args.depth c.args.at) (inv (read c.args.s.now atom c.args.depth c.args.at) q).pat x₁ c.args.n c.args.f c.in-Ok.sum.size (sized_of (read c.args.s.now atom c.args.depth c.args.at) q) x) (chained _ _ _ _ _ _ _ _ c.emit_atomic-a.ensures (forked _ _ _ _ _ _ _ _ c.start_at-x-then-c-eq-PLUS.ensures refl c.put_fork.ensures))
 
-pub emit_repeated-overflow_add-n-then-c-eq63 : goal.emit_repeated-overflow_add-n-then-c-eq63
-emit_repeated-overflow_add-n-then-c-eq63 t c = omega arith
+pub emit_repeated-overflow_add-n-then-c-eq-QUERY : goal.emit_repeated-overflow_add-n-then-c-eq-QUERY
+emit_repeated-overflow_add-n-then-c-eq-QUERY t c = omega arith
 
-pub emit_repeated-put_fork-a-requires-then-c-eq63 : goal.emit_repeated-put_fork-a-requires-then-c-eq63
-emit_repeated-put_fork-a-requires-then-c-eq63 t c = let q = sym c.in-Ok.is ∙ c.atomic-one.ensures in let g = far c.args.s.now c.args.depth c.args.at c.requires.0 atom c.in-Ok.end c.in-Ok.sum q in let x₁ = is_inv (read c.args.s.now atom c.args.depth c.args.at) c.in-Ok.end c.in-Ok.sum q in let x = piece_is_opt c.args.s.now c.args.depth c.args.at c.requires.0 c.in-Ok.end c.in-Ok.sum q (λ z. c.if-c-eq-STAR.false (c.look-c.ensures ∙ z)) (λ z. c.if-c-eq43.false (c.look-c.ensures ∙ z)) (sym c.look-c.ensures ∙ c.if-c-eq63.true) in let z = room_number (read c.args.s.now piece c.args.depth c.args.at) (read c.args.s.now atom c.args.depth c.args.at) _ _ _ _ c.requires.3 (opt_sized (read c.args.s.now piece c.args.depth c.args.at) (read c.args.s.now atom c.args.depth c.args.at) (inv (read c.args.s.now atom c.args.depth c.args.at) q).pat x₁ c.args.n c.args.f c.in-Ok.sum.size (sized_of (read c.args.s.now atom c.args.depth c.args.at) q) x) in (fork_first (read c.args.s.now piece c.args.depth c.args.at) (read c.args.s.now atom c.args.depth c.args.at) (inv (read c.args.s.now atom c.args.depth c.args.at) q).pat x₁ c.args.n c.args.f c.args.f (start_at c.in-Ok.sum.size (c.args.n + 1) c.args.f) c.args.f (opt_sized (read c.args.s.now piece c.args.depth c.args.at) (read c.args.s.now atom c.args.depth c.args.at) (inv (read c.args.s.now atom c.args.depth c.args.at) q).pat x₁ c.args.n c.args.f c.in-Ok.sum.size (sized_of (read c.args.s.now atom c.args.depth c.args.at) q) x) (opt_coded (read c.args.s.now piece c.args.depth c.args.at) (read c.args.s.now atom c.args.depth c.args.at) (inv (read c.args.s.now atom c.args.depth c.args.at) q).pat x₁ c.args.n c.args.f c.in-Ok.sum.size (sized_of (read c.args.s.now atom c.args.depth c.args.at) q) x) c.args.o (length c.args.out.now) c.requires.3 c.requires.3.follow, below _ _ 256 c.start_at-x-then-c-eq63.ensures (start_below c.in-Ok.sum.size (c.args.n + 1) c.args.f 256 z c.requires.3.follow), c.requires.3.follow)
+pub emit_repeated-put_fork-a-requires-then-c-eq-QUERY : goal.emit_repeated-put_fork-a-requires-then-c-eq-QUERY
+emit_repeated-put_fork-a-requires-then-c-eq-QUERY t c = let q = sym c.in-Ok.is ∙ c.atomic-one.ensures in let g = far c.args.s.now c.args.depth c.args.at c.requires.0 atom c.in-Ok.end c.in-Ok.sum q in let x₁ = is_inv (read c.args.s.now atom c.args.depth c.args.at) c.in-Ok.end c.in-Ok.sum q in let x = piece_is_opt c.args.s.now c.args.depth c.args.at c.requires.0 c.in-Ok.end c.in-Ok.sum q (λ z. c.if-c-eq-STAR.false (c.look-c.ensures ∙ z)) (λ z. c.if-c-eq-PLUS.false (c.look-c.ensures ∙ z)) (sym c.look-c.ensures ∙ c.if-c-eq-QUERY.true) in let z = room_number (read c.args.s.now piece c.args.depth c.args.at) (read c.args.s.now atom c.args.depth c.args.at) _ _ _ _ c.requires.3 (opt_sized (read c.args.s.now piece c.args.depth c.args.at) (read c.args.s.now atom c.args.depth c.args.at) (inv (read c.args.s.now atom c.args.depth c.args.at) q).pat x₁ c.args.n c.args.f c.in-Ok.sum.size (sized_of (read c.args.s.now atom c.args.depth c.args.at) q) x) in (fork_first (read c.args.s.now piece c.args.depth c.args.at) (read c.args.s.now atom c.args.depth c.args.at) (inv (read c.args.s.now atom c.args.depth c.args.at) q).pat x₁ c.args.n c.args.f c.args.f (start_at c.in-Ok.sum.size (c.args.n + 1) c.args.f) c.args.f (opt_sized (read c.args.s.now piece c.args.depth c.args.at) (read c.args.s.now atom c.args.depth c.args.at) (inv (read c.args.s.now atom c.args.depth c.args.at) q).pat x₁ c.args.n c.args.f c.in-Ok.sum.size (sized_of (read c.args.s.now atom c.args.depth c.args.at) q) x) (opt_coded (read c.args.s.now piece c.args.depth c.args.at) (read c.args.s.now atom c.args.depth c.args.at) (inv (read c.args.s.now atom c.args.depth c.args.at) q).pat x₁ c.args.n c.args.f c.in-Ok.sum.size (sized_of (read c.args.s.now atom c.args.depth c.args.at) q) x) c.args.o (length c.args.out.now) c.requires.3 c.requires.3.follow, below _ _ 256 c.start_at-x-then-c-eq-QUERY.ensures (start_below c.in-Ok.sum.size (c.args.n + 1) c.args.f 256 z c.requires.3.follow), c.requires.3.follow)
 
-pub emit_repeated-overflow_add-n-then-c-eq63-2 : goal.emit_repeated-overflow_add-n-then-c-eq63-2
-emit_repeated-overflow_add-n-then-c-eq63-2 t c = omega arith
+pub emit_repeated-overflow_add-n-then-c-eq-QUERY-2 : goal.emit_repeated-overflow_add-n-then-c-eq-QUERY-2
+emit_repeated-overflow_add-n-then-c-eq-QUERY-2 t c = omega arith
 
-pub emit_repeated-emit_atomic-requires-then-c-eq63 : goal.emit_repeated-emit_atomic-requires-then-c-eq63
-emit_repeated-emit_atomic-requires-then-c-eq63 t c = let q = sym c.in-Ok.is ∙ c.atomic-one.ensures in let g = far c.args.s.now c.args.depth c.args.at c.requires.0 atom c.in-Ok.end c.in-Ok.sum q in let x₁ = is_inv (read c.args.s.now atom c.args.depth c.args.at) c.in-Ok.end c.in-Ok.sum q in let x = piece_is_opt c.args.s.now c.args.depth c.args.at c.requires.0 c.in-Ok.end c.in-Ok.sum q (λ z. c.if-c-eq-STAR.false (c.look-c.ensures ∙ z)) (λ z. c.if-c-eq43.false (c.look-c.ensures ∙ z)) (sym c.look-c.ensures ∙ c.if-c-eq63.true) in (omega arith, (c.requires.0, c.requires.1, c.requires.2, room_moved (read c.args.s.now atom c.args.depth c.args.at) (c.args.n + 1) c.args.f (c.args.o + 3) _ (length c.args.out.now) _ (sym c.put_fork-a-then-c-eq63.ensures.on) (sym c.put_fork-a-then-c-eq63.auto.out) (fork_then (read c.args.s.now piece c.args.depth c.args.at) (read c.args.s.now atom c.args.depth c.args.at) (inv (read c.args.s.now atom c.args.depth c.args.at) q).pat x₁ c.args.n c.args.f c.args.f (start_at c.in-Ok.sum.size (c.args.n + 1) c.args.f) c.args.f (opt_sized (read c.args.s.now piece c.args.depth c.args.at) (read c.args.s.now atom c.args.depth c.args.at) (inv (read c.args.s.now atom c.args.depth c.args.at) q).pat x₁ c.args.n c.args.f c.in-Ok.sum.size (sized_of (read c.args.s.now atom c.args.depth c.args.at) q) x) (opt_coded (read c.args.s.now piece c.args.depth c.args.at) (read c.args.s.now atom c.args.depth c.args.at) (inv (read c.args.s.now atom c.args.depth c.args.at) q).pat x₁ c.args.n c.args.f c.in-Ok.sum.size (sized_of (read c.args.s.now atom c.args.depth c.args.at) q) x) c.args.o (length c.args.out.now) c.requires.3 c.requires.3.follow)))
+pub emit_repeated-emit_atomic-requires-then-c-eq-QUERY : goal.emit_repeated-emit_atomic-requires-then-c-eq-QUERY
+emit_repeated-emit_atomic-requires-then-c-eq-QUERY t c = let q = sym c.in-Ok.is ∙ c.atomic-one.ensures in let g = far c.args.s.now c.args.depth c.args.at c.requires.0 atom c.in-Ok.end c.in-Ok.sum q in let x₁ = is_inv (read c.args.s.now atom c.args.depth c.args.at) c.in-Ok.end c.in-Ok.sum q in let x = piece_is_opt c.args.s.now c.args.depth c.args.at c.requires.0 c.in-Ok.end c.in-Ok.sum q (λ z. c.if-c-eq-STAR.false (c.look-c.ensures ∙ z)) (λ z. c.if-c-eq-PLUS.false (c.look-c.ensures ∙ z)) (sym c.look-c.ensures ∙ c.if-c-eq-QUERY.true) in (omega arith, (c.requires.0, c.requires.1, c.requires.2, room_moved (read c.args.s.now atom c.args.depth c.args.at) (c.args.n + 1) c.args.f (c.args.o + 3) _ (length c.args.out.now) _ (sym c.put_fork-a-then-c-eq-QUERY.ensures.on) (sym c.put_fork-a-then-c-eq-QUERY.auto.out) (fork_then (read c.args.s.now piece c.args.depth c.args.at) (read c.args.s.now atom c.args.depth c.args.at) (inv (read c.args.s.now atom c.args.depth c.args.at) q).pat x₁ c.args.n c.args.f c.args.f (start_at c.in-Ok.sum.size (c.args.n + 1) c.args.f) c.args.f (opt_sized (read c.args.s.now piece c.args.depth c.args.at) (read c.args.s.now atom c.args.depth c.args.at) (inv (read c.args.s.now atom c.args.depth c.args.at) q).pat x₁ c.args.n c.args.f c.in-Ok.sum.size (sized_of (read c.args.s.now atom c.args.depth c.args.at) q) x) (opt_coded (read c.args.s.now piece c.args.depth c.args.at) (read c.args.s.now atom c.args.depth c.args.at) (inv (read c.args.s.now atom c.args.depth c.args.at) q).pat x₁ c.args.n c.args.f c.in-Ok.sum.size (sized_of (read c.args.s.now atom c.args.depth c.args.at) q) x) c.args.o (length c.args.out.now) c.requires.3 c.requires.3.follow)))
 
-pub emit_repeated-shape_of-out-then-c-eq63 : goal.emit_repeated-shape_of-out-then-c-eq63
-emit_repeated-shape_of-out-then-c-eq63 t c = c.emit_atomic-then-c-eq63.auto.out ∙ c.put_fork-a-then-c-eq63.auto.out
+pub emit_repeated-shape_of-out-then-c-eq-QUERY : goal.emit_repeated-shape_of-out-then-c-eq-QUERY
+emit_repeated-shape_of-out-then-c-eq-QUERY t c = c.emit_atomic-then-c-eq-QUERY.auto.out ∙ c.put_fork-a-then-c-eq-QUERY.auto.out
 
-pub emit_repeated-returns-then-c-eq63 : goal.emit_repeated-returns-then-c-eq63
-emit_repeated-returns-then-c-eq63 t c = let q = sym c.in-Ok.is ∙ c.atomic-one.ensures in let g = far c.args.s.now c.args.depth c.args.at c.requires.0 atom c.in-Ok.end c.in-Ok.sum q in let x₁ = is_inv (read c.args.s.now atom c.args.depth c.args.at) c.in-Ok.end c.in-Ok.sum q in let x = piece_is_opt c.args.s.now c.args.depth c.args.at c.requires.0 c.in-Ok.end c.in-Ok.sum q (λ z. c.if-c-eq-STAR.false (c.look-c.ensures ∙ z)) (λ z. c.if-c-eq43.false (c.look-c.ensures ∙ z)) (sym c.look-c.ensures ∙ c.if-c-eq63.true) in wrote_whole _ _ _ _ _ _ (opt_coded (read c.args.s.now piece c.args.depth c.args.at) (read c.args.s.now atom c.args.depth c.args.at) (inv (read c.args.s.now atom c.args.depth c.args.at) q).pat x₁ c.args.n c.args.f c.in-Ok.sum.size (sized_of (read c.args.s.now atom c.args.depth c.args.at) q) x) (chained _ _ _ _ _ _ _ _ (forked _ _ _ _ _ _ _ _ c.start_at-x-then-c-eq63.ensures refl c.put_fork-a-then-c-eq63.ensures) c.emit_atomic-then-c-eq63.ensures)
+pub emit_repeated-returns-then-c-eq-QUERY : goal.emit_repeated-returns-then-c-eq-QUERY
+emit_repeated-returns-then-c-eq-QUERY t c = let q = sym c.in-Ok.is ∙ c.atomic-one.ensures in let g = far c.args.s.now c.args.depth c.args.at c.requires.0 atom c.in-Ok.end c.in-Ok.sum q in let x₁ = is_inv (read c.args.s.now atom c.args.depth c.args.at) c.in-Ok.end c.in-Ok.sum q in let x = piece_is_opt c.args.s.now c.args.depth c.args.at c.requires.0 c.in-Ok.end c.in-Ok.sum q (λ z. c.if-c-eq-STAR.false (c.look-c.ensures ∙ z)) (λ z. c.if-c-eq-PLUS.false (c.look-c.ensures ∙ z)) (sym c.look-c.ensures ∙ c.if-c-eq-QUERY.true) in wrote_whole _ _ _ _ _ _ (opt_coded (read c.args.s.now piece c.args.depth c.args.at) (read c.args.s.now atom c.args.depth c.args.at) (inv (read c.args.s.now atom c.args.depth c.args.at) q).pat x₁ c.args.n c.args.f c.in-Ok.sum.size (sized_of (read c.args.s.now atom c.args.depth c.args.at) q) x) (chained _ _ _ _ _ _ _ _ (forked _ _ _ _ _ _ _ _ c.start_at-x-then-c-eq-QUERY.ensures refl c.put_fork-a-then-c-eq-QUERY.ensures) c.emit_atomic-then-c-eq-QUERY.ensures)
 
 pub emit_repeated-emit_atomic-requires-2 : goal.emit_repeated-emit_atomic-requires-2
-emit_repeated-emit_atomic-requires-2 t c = let q = sym c.in-Ok.is ∙ c.atomic-one.ensures in let g = far c.args.s.now c.args.depth c.args.at c.requires.0 atom c.in-Ok.end c.in-Ok.sum q in let x₁ = is_inv (read c.args.s.now atom c.args.depth c.args.at) c.in-Ok.end c.in-Ok.sum q in let x = piece_is_one c.args.s.now c.args.depth c.args.at c.requires.0 c.in-Ok.end c.in-Ok.sum q (λ z. c.if-c-eq-STAR.false (c.look-c.ensures ∙ z)) (λ z. c.if-c-eq43.false (c.look-c.ensures ∙ z)) (λ z. c.if-c-eq63.false (c.look-c.ensures ∙ z)) in (omega arith, (c.requires.0, c.requires.1, c.requires.2, room_same (read c.args.s.now piece c.args.depth c.args.at) (read c.args.s.now atom c.args.depth c.args.at) (inv (read c.args.s.now atom c.args.depth c.args.at) q).pat c.args.n c.args.f c.args.o (length c.args.out.now) x x₁ c.requires.3))
+emit_repeated-emit_atomic-requires-2 t c = let q = sym c.in-Ok.is ∙ c.atomic-one.ensures in let g = far c.args.s.now c.args.depth c.args.at c.requires.0 atom c.in-Ok.end c.in-Ok.sum q in let x₁ = is_inv (read c.args.s.now atom c.args.depth c.args.at) c.in-Ok.end c.in-Ok.sum q in let x = piece_is_one c.args.s.now c.args.depth c.args.at c.requires.0 c.in-Ok.end c.in-Ok.sum q (λ z. c.if-c-eq-STAR.false (c.look-c.ensures ∙ z)) (λ z. c.if-c-eq-PLUS.false (c.look-c.ensures ∙ z)) (λ z. c.if-c-eq-QUERY.false (c.look-c.ensures ∙ z)) in (omega arith, (c.requires.0, c.requires.1, c.requires.2, room_same (read c.args.s.now piece c.args.depth c.args.at) (read c.args.s.now atom c.args.depth c.args.at) (inv (read c.args.s.now atom c.args.depth c.args.at) q).pat c.args.n c.args.f c.args.o (length c.args.out.now) x x₁ c.requires.3))
 
 pub emit_repeated-returns : goal.emit_repeated-returns
-emit_repeated-returns t c = let q = sym c.in-Ok.is ∙ c.atomic-one.ensures in let g = far c.args.s.now c.args.depth c.args.at c.requires.0 atom c.in-Ok.end c.in-Ok.sum q in let x₁ = is_inv (read c.args.s.now atom c.args.depth c.args.at) c.in-Ok.end c.in-Ok.sum q in let x = piece_is_one c.args.s.now c.args.depth c.args.at c.requires.0 c.in-Ok.end c.in-Ok.sum q (λ z. c.if-c-eq-STAR.false (c.look-c.ensures ∙ z)) (λ z. c.if-c-eq43.false (c.look-c.ensures ∙ z)) (λ z. c.if-c-eq63.false (c.look-c.ensures ∙ z)) in wrote_same _ _ _ _ (read c.args.s.now piece c.args.depth c.args.at) (read c.args.s.now atom c.args.depth c.args.at) (inv (read c.args.s.now atom c.args.depth c.args.at) q).pat c.args.n c.args.f x x₁ c.emit_atomic-2.ensures
+emit_repeated-returns t c = let q = sym c.in-Ok.is ∙ c.atomic-one.ensures in let g = far c.args.s.now c.args.depth c.args.at c.requires.0 atom c.in-Ok.end c.in-Ok.sum q in let x₁ = is_inv (read c.args.s.now atom c.args.depth c.args.at) c.in-Ok.end c.in-Ok.sum q in let x = piece_is_one c.args.s.now c.args.depth c.args.at c.requires.0 c.in-Ok.end c.in-Ok.sum q (λ z. c.if-c-eq-STAR.false (c.look-c.ensures ∙ z)) (λ z. c.if-c-eq-PLUS.false (c.look-c.ensures ∙ z)) (λ z. c.if-c-eq-QUERY.false (c.look-c.ensures ∙ z)) in wrote_same _ _ _ _ (read c.args.s.now piece c.args.depth c.args.at) (read c.args.s.now atom c.args.depth c.args.at) (inv (read c.args.s.now atom c.args.depth c.args.at) q).pat c.args.n c.args.f x x₁ c.emit_atomic-2.ensures
 
 pub emit_sequence-sequence-whole-requires : goal.emit_sequence-sequence-whole-requires
 emit_sequence-sequence-whole-requires t c = (c.requires.0, c.requires.1, c.requires.2)
