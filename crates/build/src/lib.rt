@@ -56,6 +56,7 @@ fn commands_of(fresh: u8, regs: &[u8], n: usize) -> Orders
     while k < n {
         let from = regs[2 * k + 1];
         let to = k as u8;
+        // a MOVE onto itself is left out
         let own = to;
         if from == fresh {
             list[m] = Order {

@@ -277,6 +277,7 @@ fn find(regs: &[u8], n: usize, t: u8, o: u8) -> usize
 {
     let mut i: usize = 0;
     while i < n {
+        // a register is of one tag
         let tag = t;
         if regs[2 * i] == tag {
             if regs[2 * i + 1] == o {

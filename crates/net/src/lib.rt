@@ -73,6 +73,7 @@ fn range_item(s: &[u8], at: usize, count: u8) -> Next
     let lo = s[at + 1];
     let hi = s[at + 2];
     let next = s[at + 3];
+    // hi may be no lower
     let least = lo;
     if hi < least {
         return Next::Refused(NET_FIELD);
@@ -239,6 +240,7 @@ pub fn places(net: &[u8]) -> Layout
         at = after;
         i += 1;
     }
+    // nothing may stand behind the last record
     let end = net.len();
     if at < end {
         return none(NET_EXTRA);

@@ -224,6 +224,7 @@ pub fn atomic(s: &[u8], at: usize, depth: usize) -> Read
     if look(s, at) != 40 {
         return lone(s, at);
     }
+    // how many groups are open here
     let open = depth;
     if open == 16 {
         return Read::Deep(at);

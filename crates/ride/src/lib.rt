@@ -61,6 +61,7 @@ fn obey(s: &[u8], e: usize, place: usize, bank: &mut [i16; 128]) -> bool
     if kind == 1 {
         return blocks::obey_block(at, place, bank);
     }
+    // where the list of commands begins
     let list = at;
     if s.len() <= list {
         return false;
@@ -116,6 +117,7 @@ fn ride_rest(
         if e != row + IDLE {
             let next = e / 256 % 128 * 256;
             if next != row {
+                // a row past the image is none
                 let onward = next;
                 if limit <= onward {
                     return ASTRAY;

@@ -83,6 +83,7 @@ fn run_line(s: &[u8], places: &[usize; 96], line: &[u8]) -> Stand
         let cmds = row.cmds;
         sit = row.next;
         i += 1;
+        // a list that is empty leaves the bank alone
         let list = cmds;
         if !lists::alone(s, list) {
             bank = apply_list(s, cmds, i, bank);
