@@ -3,7 +3,7 @@
 
 use std::io::Write;
 use std::path::Path;
-use std::process::{Command, Stdio};
+use std::process::{Child, Command, Stdio};
 
 /// What fills a buffer before a call.
 const FILL: u8 = 0xa5;
@@ -248,14 +248,20 @@ pub fn ride_two(table: &[u8], image: &[u32], line: &[u8], other: &[u8]) -> [(u8,
     [(codes[0], answers[0], first), (codes[1], answers[1], second)]
 }
 
+/// The program under way, between an input and an output.
+pub fn tagline_between(input: Stdio, output: Stdio) -> Child {
+    let program = Path::new(env!("CARGO_MANIFEST_DIR")).join("../target/bin/tagline");
+    Command::new(&program)
+        .stdin(input)
+        .stdout(output)
+        .stderr(Stdio::piped())
+        .spawn()
+        .unwrap_or_else(|why| panic!("{}: {why}; `tools/link.sh tagline` makes it", program.display()))
+}
+
 /// The program itself: what it writes to standard output for an input.
 pub fn tagline(input: &[u8]) -> Vec<u8> {
-    let program = Path::new(env!("CARGO_MANIFEST_DIR")).join("../target/bin/tagline");
-    let mut child = Command::new(&program)
-        .stdin(Stdio::piped())
-        .stdout(Stdio::piped())
-        .spawn()
-        .unwrap_or_else(|why| panic!("{}: {why}; `tools/link.sh tagline` makes it", program.display()));
+    let mut child = tagline_between(Stdio::piped(), Stdio::piped());
     let mut to = child.stdin.take().expect("a pipe");
     let text = input.to_vec();
     // the program stops reading after 65,537 bytes, so what is left of a longer input may find no reader

@@ -1,7 +1,9 @@
 //! The program itself, from standard input to standard output.
 
-use chorvugdan_tests::calls::tagline;
+use chorvugdan_tests::calls::{tagline, tagline_between};
 use chorvugdan_tests::vectors::{cases, fault};
+use std::fs::File;
+use std::process::Stdio;
 
 #[test]
 fn inputs() {
@@ -84,4 +86,19 @@ fn sizes() {
     assert_eq!(first(b"a**"), "refused 2 at 2");
     assert_eq!(first(b"@8"), "refused 2 at 1");
     assert_eq!(first(b"[z-a]"), "refused 2 at 3");
+}
+
+/// What the system will not take or give ends the program with a status and a word on it, and nothing is told of the feed.
+#[test]
+fn refused_by_the_system() {
+    let folder = File::open(env!("CARGO_MANIFEST_DIR")).expect("the folder of the tests");
+    let read = tagline_between(folder.into(), Stdio::piped()).wait_with_output().expect("the program ends");
+    assert_eq!((read.status.code(), read.stdout.len()), (Some(1), 0));
+    assert!(!read.stderr.is_empty());
+
+    let full = File::options().write(true).open("/dev/full").expect("a device that is always full");
+    let feed = File::open(concat!(env!("CARGO_MANIFEST_DIR"), "/../examples/paper.txt")).expect("the example feed");
+    let write = tagline_between(feed.into(), full.into()).wait_with_output().expect("the program ends");
+    assert_eq!(write.status.code(), Some(1));
+    assert!(!write.stderr.is_empty());
 }
