@@ -3,6 +3,50 @@
 
 ghost use Rattle.std.specs.Prelude.{◌≡◌};
 ghost use Rattle.answers.specs.Answers.{answers};
+ghost use Rattle.answers.specs.Refusals.{code_of, number_of};
+
+// Why a call refuses: the answers but OK, each with its number.
+#[derive(Clone, Copy, PartialEq, Eq)]
+pub enum Refusal {
+    PatternLong = 1,
+    PatternForm = 2,
+    PatternDeep = 3,
+    PatternBig = 4,
+    NetKind = 5,
+    NetShort = 6,
+    NetField = 7,
+    NetExtra = 8,
+    WorkSmall = 9,
+    Registers = 10,
+    Situations = 11,
+    OutSmall = 12,
+    TableForm = 13,
+    EmptyRead = 14,
+    LineLong = 15,
+    NoMatch = 16,
+    FieldAbsent = 17,
+    FieldBack = 18,
+    FieldPast = 19,
+    NotBytes = 20,
+}
+
+impl From<Refusal> for u8 {
+    ghost from_gives = { λ e n. n ≡ code_of e };
+
+    fn from(e: Refusal) -> u8 {
+        e as u8
+    }
+}
+
+// The number of a call's answer: OK, or that of its refusal.
+pub fn number<T: Copy>(r: Result<T, Refusal>) -> u8
+    ensures { result ≡ number_of r }
+{
+    match r {
+        Ok(_) => OK,
+        Err(e) => u8::from(e),
+    }
+}
 
 pub const OK: u8 = 0;
 

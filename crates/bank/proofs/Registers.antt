@@ -7,7 +7,7 @@ use lib.IntN.{ℤ, pos}
 use lib.ListN.{length, get_or, set, replicate, get_or-replicate}
 use lib.Seq.{get_or-set_same}
 use Rattle.ground.specs.Place.{absent, place_of}
-use Rattle.ground.specs.declared.Place.TheVariants.{At, Absent}
+use Rattle.std.specs.Prelude.{Some, None}
 use Rattle.ground.proofs.Places.{back_from_held}
 use Rattle.bank.specs.declared.Bank.{Bank}
 
@@ -20,9 +20,9 @@ pub one_read : (s : Bank) (from : ℕ) {v w : ℤ} → v ≡ get_or s.r from (po
 one_read s from e f = e ∙ sym f
 
 -- what stands at a register after a place was stored there
-pub stored : (l : List ℤ) (to place : ℕ) → to < length l → place_of (get_or (set l to (pos place)) to (pos 0)) ≡ At place
-stored l to place h = ap place_of (get_or-set_same l to (pos place) (pos 0) h) ∙ back_from_held (At place)
+pub stored : (l : List ℤ) (to place : ℕ) → to < length l → place_of (get_or (set l to (pos place)) to (pos 0)) ≡ Some place
+stored l to place h = ap place_of (get_or-set_same l to (pos place) (pos 0) h) ∙ back_from_held (Some place)
 
 -- every register of an empty bank is empty
-pub emptied : (from : ℕ) → from < 64 → place_of (get_or (replicate 64 absent) from (pos 0)) ≡ Absent
-emptied from h = ap place_of (get_or-replicate 64 from absent (pos 0) h) ∙ back_from_held Absent
+pub emptied : (from : ℕ) → from < 64 → place_of (get_or (replicate 64 absent) from (pos 0)) ≡ None
+emptied from h = ap place_of (get_or-replicate 64 from absent (pos 0) h) ∙ back_from_held None

@@ -5,6 +5,9 @@
 ghost use Rattle.std.specs.Prelude.{◌≡◌, ◌≤◌, ◌<◌, pos, get_or, set, replicate};
 ghost use Rattle.ground.specs.Place.{place_max, absent};
 
+// What an empty register holds.
+const ABSENT: i16 = -1;
+
 #[derive(Clone, Copy)]
 pub struct Bank {
     pub r: [i16; 64],
@@ -15,7 +18,7 @@ impl Bank {
     pub fn empty() -> Self
         ensures { result.r ≡ replicate 64 absent }
     {
-        Bank { r: [-1i16; 64] }
+        Bank { r: [ABSENT; 64] }
     }
 
     // A place is stored. The caller shows both bounds.
@@ -23,8 +26,7 @@ impl Bank {
         requires { (to < 64) × (place ≤ place_max) }
         ensures { result.r ≡ set self.r to (pos place) }
     {
-        let v = ground::held(place);
-        self.r[to] = v;
+        self.r[to] = ground::held(place);
         self
     }
 
@@ -33,8 +35,7 @@ impl Bank {
         requires { (to < 64) × (from < 64) }
         ensures { result.r ≡ set self.r to (get_or old.r from (pos 0)) }
     {
-        let v = old.r[from];
-        self.r[to] = v;
+        self.r[to] = old.r[from];
         self
     }
 

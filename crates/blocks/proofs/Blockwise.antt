@@ -1,12 +1,15 @@
 -- A block of commands carried out, register by register. Assumes nothing.
 use Prim.Native.Nat.{ℕ, zero, suc, ◌+◌, ◌-◌, ◌/◌, ◌%◌, ◌<◌, ◌≤◌}
 use native.Mathlib.Omega.{arith}
-use native.Mathlib.Numerals.{add-one}
 use mathlib.Core.Path.{◌≡◌, refl, sym, ap, ap₂, ◌∙◌}
 use mathlib.Core.Bool.{true, false}
 use mathlib.Core.List.{List, [], ◌∷◌, ◌++◌}
-use lib.ListN.{set}
-use lib.Seq.{get_or-set_other, set_comm}
+use lib.ListN.{length, set, take, drop, replicate, length-take, length-drop}
+use lib.Seq.{get_or-set_other, set_comm, drop-cons, sets, paste}
+use borrow.Rule.Slice.PartMut.{put_mid}
+use Rattle.std.proofs.lemmas.List.{take-take}
+use Rattle.std.proofs.lemmas.List.Edits.{sets-eq}
+use Rattle.std.proofs.lemmas.Slice.{put_mid-paste}
 use lib.IntN.{ℤ, pos}
 use Rattle.card.specs.Table.{Cmd, move, put}
 use Rattle.card.specs.Run.{Bank, reg}
@@ -22,23 +25,38 @@ carry_append [] m p old cur = refl
 carry_append (move t f ∷ l) m p old cur = carry_append l m p old (set cur t (reg old f))
 carry_append (put t ∷ l) m p old cur = carry_append l m p old (set cur t (pos p))
 
--- ---- register by register
+-- ---- a part of the bank stored as one
+
+stored : (a n : ℕ) (bank vs : Bank) → n ≤ length vs → a + n ≤ length bank → paste bank a vs n ≡ sets bank a (take n vs)
+stored a n bank vs e h =
+    let l : length (take n vs) ≡ n = simp length-take (omega arith) in
+    ap (λ (m : ℕ). take a bank ++ take n vs ++ drop (a + m) bank) (sym l) ∙ sym (sets-eq (take n vs) bank a (omega arith))
 
 module _ (p : ℕ) (old : Bank) where
-  -- SETs of the registers from i on before e
-  pub fill_first : (a k : ℕ) (cur : Bank) → carry (puts a (a + k - a)) p old cur ≡ carry (puts a k) p old cur
-  fill_first a k cur = let e : a + k - a ≡ k = omega arith in ap (λ (n : ℕ). carry (puts a n) p old cur) e
-
-  pub fill_next : (i e : ℕ) (cur : Bank) → i < e → carry (puts (i + 1) (e - (i + 1))) p old (set cur i (pos p)) ≡ carry (puts i (e - i)) p old cur
+  moves_one_by_one : (a f n : ℕ) (cur : Bank) → f + n ≤ length old → sets cur a (take n (drop f old)) ≡ carry (moves a f n) p old cur
   unfolding carry
-  fill_next i e cur l =
-      let n : suc (e - (i + 1)) ≡ e - i = omega arith in
-      ap (λ (j : ℕ). carry (puts j (e - (i + 1))) p old (set cur i (pos p))) (add-one i)
-      ∙ ap (λ (m : ℕ). carry (puts i m) p old cur) n
+  moves_one_by_one a f zero cur h = refl
+  moves_one_by_one a f (suc n) cur h =
+      ap (λ (l : Bank). sets cur a (take (suc n) l)) (drop-cons old f (pos 0) (omega arith))
+      ∙ moves_one_by_one (suc a) (suc f) n (set cur a (reg old f)) (omega arith)
 
-  pub fill_last : (i e : ℕ) (cur : Bank) → e ≤ i → cur ≡ carry (puts i (e - i)) p old cur
+  puts_one_by_one : (a k : ℕ) (cur : Bank) → sets cur a (replicate k (pos p)) ≡ carry (puts a k) p old cur
   unfolding carry
-  fill_last i e cur l = let z : 0 ≡ e - i = omega arith in ap (λ (n : ℕ). carry (puts i n) p old cur) z
+  puts_one_by_one a zero cur = refl
+  puts_one_by_one a (suc k) cur = puts_one_by_one (suc a) k (set cur a (pos p))
+
+  pub moves_stored : (a f n : ℕ) (vs : Bank) → a + n ≤ length old → f + n ≤ length old → vs ≡ take n (drop f old)
+      → paste old a vs n ≡ carry (moves a f n) p old old
+  moves_stored a f n vs h k e =
+      let l : n ≤ length (drop f old) = simp length-drop (omega arith) in
+      let i : n ≤ length vs = simp (e, length-take) (omega arith) in
+      stored a n old vs i h ∙ ap (λ (b : Bank). sets old a (take n b)) e ∙ ap (sets old a) (take-take n n (drop f old) (omega arith)) ∙ moves_one_by_one a f n old k
+
+  pub puts_stored : (a k i : ℕ) (vs : Bank) {v : ℤ} → a + k ≤ length old → i ≡ k → length vs ≡ k → v ≡ pos p → take i vs ≡ replicate i v
+      → put_mid a (a + k - a) old vs ≡ carry (puts a k) p old old
+  puts_stored a k i vs h n l w e =
+      put_mid-paste a (a + k - a) old vs vs k refl (omega arith) (sym l) ∙ stored a k old vs (omega arith) h
+      ∙ ap (λ (m : ℕ). sets old a (take m vs)) (sym n) ∙ ap (sets old a) (e ∙ ap₂ (λ (m : ℕ) (x : ℤ). replicate m x) n w) ∙ puts_one_by_one a k old
 
 -- ---- in place: MOVEs upward, the last first
 
@@ -118,55 +136,31 @@ module _ (p : ℕ) (old : Bank) where
       ∙ sym (carry_append (moves a f c) (moves (a + c) (f + c) m) p old old)
       ∙ ap (λ (l : List Cmd). carry l p old old) (sym (moves_add a f c m))
 
-  -- the MOVEs from the register j on are done
+  -- the MOVEs from the register i on are done
+  abbrev pub Shifted : (a f n i : ℕ) → Bank → Type 0
+  Shifted a f n i cur = cur ≡ carry (moves (a + i) (f + i) (n - i)) p old old
+
+  pub shift_none : (a f n i : ℕ) → n ≤ i → Shifted a f n i old
+  unfolding carry
+  shift_none a f n i l = let z : 0 ≡ n - i = omega arith in ap (λ (m : ℕ). carry (moves (a + i) (f + i) m) p old old) z
+
   module _ (a f n : ℕ) (up : f ≤ a) where
-    pub shift_first : old ≡ carry (moves (a + n) (f + n) (n - n)) p old old
-    unfolding carry
-    shift_first = let z : 0 ≡ n - n = omega arith in ap (λ (m : ℕ). carry (moves (a + n) (f + n) m) p old old) z
+    pub shift_more : (i c j : ℕ) {cur new : Bank} → j ≡ i + c → j ≤ n → Shifted a f n j cur → new ≡ carry (moves (a + i) (f + i) c) p cur cur → Shifted a f n i new
+    shift_more i c j {cur} {new} k l e g =
+        let x : a + j ≡ a + i + c = omega arith in
+        let y : f + j ≡ f + i + c = omega arith in
+        let z : c + (n - j) ≡ n - i = omega arith in
+        lower_then (a + i) (f + i) c (n - j) (omega arith) (e ∙ ap₂ (λ (t u : ℕ). carry (moves t u (n - j)) p old old) x y) g
+        ∙ ap (λ (m : ℕ). carry (moves (a + i) (f + i) m) p old old) z
 
-    pub shift_next : (j c : ℕ) {cur new : Bank} → c ≤ j → j ≤ n → cur ≡ carry (moves (a + j) (f + j) (n - j)) p old old
-        → new ≡ carry (moves (a + (j - c)) (f + (j - c)) c) p cur cur → new ≡ carry (moves (a + (j - c)) (f + (j - c)) (n - (j - c))) p old old
-    shift_next j c {cur} {new} k l e g =
-        let x : a + j ≡ a + (j - c) + c = omega arith in
-        let y : f + j ≡ f + (j - c) + c = omega arith in
-        let z : c + (n - j) ≡ n - (j - c) = omega arith in
-        lower_then (a + (j - c)) (f + (j - c)) c (n - j) (omega arith) (e ∙ ap₂ (λ (t u : ℕ). carry (moves t u (n - j)) p old old) x y) g
-        ∙ ap (λ (m : ℕ). carry (moves (a + (j - c)) (f + (j - c)) m) p old old) z
-
-    pub shift_last : (j : ℕ) {cur new : Bank} → j ≤ n → cur ≡ carry (moves (a + j) (f + j) (n - j)) p old old
-        → new ≡ carry (moves a f j) p cur cur → new ≡ carry (moves a f n) p old old
+    pub shift_last : (j : ℕ) {cur new : Bank} → j ≤ n → Shifted a f n j cur → new ≡ carry (moves a f j) p cur cur → new ≡ carry (moves a f n) p old old
     shift_last j {cur} {new} l e g =
         let z : j + (n - j) ≡ n = omega arith in
         lower_then a f j (n - j) up e g ∙ ap (λ (m : ℕ). carry (moves a f m) p old old) z
 
-    pub shift_done : (j : ℕ) {cur : Bank} → j ≤ 0 → cur ≡ carry (moves (a + j) (f + j) (n - j)) p old old → cur ≡ carry (moves a f n) p old old
+    pub shift_all : {cur : Bank} → Shifted a f n 0 cur → cur ≡ carry (moves a f n) p old old
     unfolding carry
-    shift_done j {cur} l e = let z : 0 ≡ j = omega arith in shift_last j (omega arith) e (ap (λ (m : ℕ). carry (moves a f m) p cur cur) z)
-
--- ---- upward, one by one: what is left of n MOVEs after t of them
-
-module _ (p : ℕ) (old : Bank) (a f n : ℕ) where
-  abbrev pub from : ℕ → Bank → Bank
-  from t cur = carry (moves (a + t) (f + t) (n - t)) p old cur
-
-  pub move_first : (cur : Bank) → from 0 cur ≡ carry (moves a f n) p old cur
-  move_first cur =
-      let x : a + 0 ≡ a = omega arith in
-      let y : f + 0 ≡ f = omega arith in
-      let z : n - 0 ≡ n = omega arith in
-      rw (x, y, z)
-
-  pub move_next : (t : ℕ) (cur : Bank) → t < n → {v : ℤ} → v ≡ reg old (f + t) → from (t + 1) (set cur (a + t) v) ≡ from t cur
-  unfolding carry
-  move_next t cur h k =
-      let x : a + (t + 1) ≡ suc (a + t) = omega arith in
-      let y : f + (t + 1) ≡ suc (f + t) = omega arith in
-      let z : n - t ≡ suc (n - (t + 1)) = omega arith in
-      rw (x, y, z, k)
-
-  pub move_last : (t : ℕ) (cur : Bank) → n ≤ t → cur ≡ from t cur
-  unfolding carry
-  move_last t cur h = let z : n - t ≡ 0 = omega arith in rw z
+    shift_all e = shift_last 0 (omega arith) e refl
 
 -- ---- the whole block
 

@@ -5,46 +5,21 @@ ghost use Rattle.std.specs.Prelude.{◌≡◌, ℕ, ◌+◌, ◌≤◌};
 ghost use Rattle.card.specs.Run.{Bank, line_max};
 ghost use Rattle.run.specs.Carry.{carry};
 ghost use Rattle.image.specs.Image.{puts, moves};
-ghost use Rattle.blocks.specs.Blocked.{Held, Blocked};
+ghost use Rattle.blocks.specs.Blocked.{Blocked};
 
 // How many registers the bank has: a block that goes past them is none.
 const BANK: usize = 64;
-
-// What the eight registers from f on hold.
-fn eight_at(bank: &[i16; 128], f: usize) -> [i16; 8]
-    requires { f + 8 ≤ 64 }
-    ensures { Held bank.now f result }
-{
-    let mut v = [0i16; 8];
-    let mut t: usize = 0;
-    while t < 8 {
-        let x = bank[f + t];
-        v[t] = x;
-        t += 1;
-    }
-    v
-}
-
-// Eight values stored to the registers from a on: if eight registers of a bank hold them, eight MOVEs from those.
-fn put_eight(bank: &mut [i16; 128], a: usize, v: [i16; 8])
-    requires { a + 8 ≤ 64 }
-    ensures { (old : Bank) (f p : ℕ) → Held old f v → bank.new ≡ carry (moves a f 8) p old bank.old }
-{
-    let mut t: usize = 0;
-    while t < 8 {
-        let x = v[t];
-        bank[a + t] = x;
-        t += 1;
-    }
-}
 
 // Eight MOVEs. All sources are read before a target is stored, so that the compiler makes one load and one store of them.
 fn move_eight(bank: &mut [i16; 128], a: usize, f: usize)
     requires { (a + 8 ≤ 64) × (f + 8 ≤ 64) }
     ensures { (p : ℕ) → bank.new ≡ carry (moves a f 8) p bank.old bank.old }
 {
-    let v = eight_at(bank, f);
-    put_eight(bank, a, v);
+    let v: [i16; 8] = *bank[f..].first_chunk().unwrap();
+    // A loop: with `copy_from_slice` a line with 64 registers took 1.3 times as long.
+    for (t, x) in v.iter().enumerate() {
+        bank[a + t] = *x;
+    }
 }
 
 // MOVEs of n registers one by one. Those above are done first, since no source stands above its target.
@@ -52,15 +27,13 @@ fn shift_few(bank: &mut [i16; 128], a: usize, f: usize, n: usize)
     requires { (a + n ≤ 64) × (f ≤ a) }
     ensures { (p : ℕ) → bank.new ≡ carry (moves a f n) p bank.old bank.old }
 {
-    let mut i = n;
-    while 0 < i {
-        i -= 1;
-        let x = bank[f + i];
-        bank[a + i] = x;
+    for i in (0..n).rev() {
+        bank[a + i] = bank[f + i];
     }
 }
 
 // The same by eights, the lowest one by one. `obey_block` tests that no source stands above its target.
+// A line with 64 registers took 1.3 times as long with `copy_within` for all of it, and with a `for` over the eights.
 fn shift(bank: &mut [i16; 128], a: usize, f: usize, n: usize)
     requires { (a + n ≤ 64) × (f ≤ a) }
     ensures { (p : ℕ) → bank.new ≡ carry (moves a f n) p bank.old bank.old }
@@ -79,11 +52,9 @@ fn fill(bank: &mut [i16; 128], a: usize, k: usize, place: usize)
     ensures { bank.new ≡ carry (puts a k) place bank.old bank.old }
 {
     let v = ground::held(place);
-    let end = a + k;
-    let mut i = a;
-    while i < end {
-        bank[i] = v;
-        i += 1;
+    // A loop: with the slice's `fill` a line with 64 registers took 1.1 times as long.
+    for x in bank[a..a + k].iter_mut() {
+        *x = v;
     }
 }
 

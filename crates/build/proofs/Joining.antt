@@ -9,30 +9,30 @@ use borrow.Author.Tests.{eq-eqb}
 use Rattle.ground.specs.Lists.{each}
 use Rattle.net.specs.Rec.{Net}
 use Rattle.paths.specs.Registers.{next, origins}
+use Rattle.std.proofs.lemmas.Bool.{and_parts}
 use Rattle.paths.specs.Equal.{same_list, same_situation}
 use Rattle.paths.proofs.Member.{T_of, of_T}
 use Rattle.card.specs.Table.{Cmd, move, put, Row, row_bytes}
 use Rattle.explore.specs.Lists.{span, position}
 use Rattle.build.specs.Card.{State, need, commands, byte_row, same_cmd, alike, both, ahead, joined}
-use Rattle.build.specs.Writing.{orders_of, row_of, alike_deeds, Does, Wrote, GoesOn, rows_bytes}
+use Rattle.build.specs.Orders.{orders_of}
+use Rattle.build.specs.Writing.{row_of, alike_deeds, Does, Writes, GoesOn, rows_bytes}
 use Rattle.build.specs.declared.Deed.{Deed}
 use Rattle.build.specs.declared.Open.{Open}
-use Rattle.build.proofs.Writing.{Left, left_all, left_on, left_last}
+use Rattle.build.specs.declared.Pen.{Pen}
+use Rattle.ground.proofs.Stores.{wrote_none}
+use Rattle.build.proofs.Writing.{Left, left_all, left_on, left_last, writes_as}
 
 -- ---- equal commands, as a test
 
-and_true : (a b : Bool) → a && b ≡ true → (a ≡ true) × (b ≡ true)
-and_true true b e = (refl, e)
-and_true false b e = let z : ◌≡◌ {A = ℕ} 0 1 = cc in absurd (omega arith)
-
 cmd_eq : (c d : Cmd) → same_cmd c d ≡ true → c ≡ d
 cmd_eq (move a b) (move c d) e =
-    let p = and_true (eqb a c) (eqb b d) e in
+    let p = and_parts (eqb a c) (eqb b d) e in
     let x = eqb→eq a c (T_of p.0) in
     let y = eqb→eq b d (T_of p.1) in
     λ i. move (x i) (y i)
-cmd_eq (move a b) (put c) e = let z : ◌≡◌ {A = ℕ} 0 1 = cc in absurd (omega arith)
-cmd_eq (put a) (move c d) e = let z : ◌≡◌ {A = ℕ} 0 1 = cc in absurd (omega arith)
+cmd_eq (move a b) (put c) e = cc
+cmd_eq (put a) (move c d) e = cc
 cmd_eq (put a) (put c) e = ap put (eqb→eq a c (T_of e))
 
 cmd_refl : (c : Cmd) → same_cmd c c ≡ true
@@ -41,10 +41,10 @@ cmd_refl (put a) = of_T (eqb a a) (eqb_refl a)
 
 cmds_eq : (l k : List Cmd) → same_list same_cmd l k ≡ true → l ≡ k
 cmds_eq [] [] e = refl
-cmds_eq [] (y ∷ k) e = let z : ◌≡◌ {A = ℕ} 0 1 = cc in absurd (omega arith)
-cmds_eq (x ∷ l) [] e = let z : ◌≡◌ {A = ℕ} 0 1 = cc in absurd (omega arith)
+cmds_eq [] (y ∷ k) e = cc
+cmds_eq (x ∷ l) [] e = cc
 cmds_eq (x ∷ l) (y ∷ k) e =
-    let a = and_true (same_cmd x y) (same_list same_cmd l k) e in
+    let a = and_parts (same_cmd x y) (same_list same_cmd l k) e in
     let p = cmd_eq x y a.0 in
     let q = cmds_eq l k a.1 in
     λ i. p i ∷ q i
@@ -104,37 +104,36 @@ module _ (A : Net) (S : List State) (s : State) where
   row_is b d h = let p = sym h.next in let q = sym h.cmds in λ i. record { lo = b; hi = b; next = p i; cmds = q i }
 
   -- the deed of the byte before serves
-  same_deed : (b : ℕ) (d e : Deed) → Does A S s b e → (d.orders.n ≤ 64) → d.next ≡ e.next → orders_of d.orders ≡ orders_of e.orders → Does A S s b d
-  same_deed b d e h few p q = record { few = few; next = p ∙ h.next; cmds = q ∙ h.cmds }
+  same_deed : (b : ℕ) (d e : Deed) → Does A S s b e → d.next ≡ e.next → orders_of d.orders ≡ orders_of e.orders → Does A S s b d
+  same_deed b d e h p q = record { next = p ∙ h.next; cmds = q ∙ h.cmds }
 
-  module _ (o : List ℕ) (q : Open) (b : ℕ) (pos : 0 < b) (was : Does A S s (b - 1) q.deed) where
-    kept : Does A S s b q.deed → GoesOn A S s o o q b q
+  module _ (p : Pen) (q : Open) (b : ℕ) (pos : 0 < b) (was : Does A S s (b - 1) q.deed) where
+    kept : Does A S s b q.deed → GoesOn A S s p p q b q
     kept h =
         record {
           does = h;
           within = omega arith;
           wrote = [];
-          out = record { out = refl; end = omega arith };
+          out = record { same = refl; wrote = wrote_none p.out.now p.at };
           rest = λ X. ap (each row_bytes) (ap (λ v. ahead (row_of q.lo (b - 1) q.deed) (ahead v X)) (row_is b q.deed h) ∙ ahead_joins (row_of q.lo (b - 1) q.deed) (row_of b b q.deed) refl refl X);
         }
 
     -- a byte that every record treats as the byte before
-    pub skipped_byte : next A b s ≡ next A (b - 1) s → origins A b s ≡ origins A (b - 1) s → GoesOn A S s o o q b q
+    pub skipped_byte : next A b s ≡ next A (b - 1) s → origins A b s ≡ origins A (b - 1) s → GoesOn A S s p p q b q
     skipped_byte e f =
         kept (record {
-          few = was.few;
           next = was.next ∙ ap (λ v. position same_situation v S) (sym e);
           cmds = was.cmds ∙ ap (commands (need s) 0) (sym f);
         })
 
     module _ (d : Deed) (h : Does A S s b d) where
-      pub joins : alike_deeds q.deed d ≡ true → GoesOn A S s o o q b q
+      pub joins : alike_deeds q.deed d ≡ true → GoesOn A S s p p q b q
       joins e =
-          let a = and_true (eqb q.deed.next d.next) (same_list same_cmd (orders_of q.deed.orders) (orders_of d.orders)) e in
-          kept (same_deed b q.deed d h was.few (eqb→eq q.deed.next d.next (T_of a.0)) (cmds_eq (orders_of q.deed.orders) (orders_of d.orders) a.1))
+          let a = and_parts (eqb q.deed.next d.next) (same_list same_cmd (orders_of q.deed.orders) (orders_of d.orders)) e in
+          kept (same_deed b q.deed d h (eqb→eq q.deed.next d.next (T_of a.0)) (cmds_eq (orders_of q.deed.orders) (orders_of d.orders) a.1))
 
-      pub parts : alike_deeds q.deed d ≡ false → (o' : List ℕ) (r : ℕ) → Wrote o o' q.at (row_bytes (row_of q.lo (b - 1) q.deed)) r → r ≤ q.at + 196 → GoesOn A S s o o' q b (record { at = r; lo = b; deed = d })
-      parts e o' r w m =
+      pub parts : alike_deeds q.deed d ≡ false → (p' : Pen) → Writes p p' (row_bytes (row_of q.lo (b - 1) q.deed)) → p'.at ≤ p.at + 196 → GoesOn A S s p p' q b (record { lo = b; deed = d })
+      parts e p' w m =
           record {
             does = h;
             within = m;
@@ -149,30 +148,35 @@ module _ (A : Net) (S : List State) (s : State) where
   abbrev pub rest_rows : Open → ℕ → List ℕ
   rest_rows q b = each row_bytes (ahead (row_of q.lo (b - 1) q.deed) (joined (map (byte_row A S s) (span b (256 - b)))))
 
-  pub rows_start : (o : List ℕ) (at : ℕ) (d : Deed) → Does A S s 0 d → Left o at (rows_bytes A S s) o at (rest_rows (record { at = at; lo = 0; deed = d }) 1)
+  -- what the loop over the bytes keeps, before byte b
+  pub record Rows (p₀ p : Pen) (q : Open) (b : ℕ) : Type 0 where
+    pub within : p.at + 196 ≤ p₀.at + 196 * b
+    pub does : Does A S s (b - 1) q.deed
+    pub left : Left p₀ (rows_bytes A S s) p (rest_rows q b)
+
+  pub rows_start : (p : Pen) (d : Deed) → Does A S s 0 d → Rows p p (record { lo = 0; deed = d }) 1
   unfolding rows_bytes
-  rows_start o at d h =
-      let e : rest_rows (record { at = at; lo = 0; deed = d }) 1 ≡ each row_bytes (joined (map (byte_row A S s) (span 0 256))) = sym (ap (each row_bytes) (rows_cons (byte_row A S s) 0 (omega arith) ∙ ap (λ v. ahead v (joined (map (byte_row A S s) (span 1 255)))) (row_is 0 d h))) in
-      subst (λ v. Left o at (each row_bytes (joined (map (byte_row A S s) (span 0 256)))) o at v) (sym e) (left_all o at (each row_bytes (joined (map (byte_row A S s) (span 0 256)))))
+  rows_start p d h =
+      let all = each row_bytes (joined (map (byte_row A S s) (span 0 256))) in
+      let e : rest_rows (record { lo = 0; deed = d }) 1 ≡ all = sym (ap (each row_bytes) (rows_cons (byte_row A S s) 0 (omega arith) ∙ ap (λ v. ahead v (joined (map (byte_row A S s) (span 1 255)))) (row_is 0 d h))) in
+      record { within = omega arith; does = h; left = subst (Left p all p) (sym e) (left_all p all) }
 
-  pub rows_on : (o₀ : List ℕ) (at₀ : ℕ) (o o' : List ℕ) (q a : Open) (b : ℕ) → b < 256 → Left o₀ at₀ (rows_bytes A S s) o q.at (rest_rows q b) → GoesOn A S s o o' q b a → Left o₀ at₀ (rows_bytes A S s) o' a.at (rest_rows a (b + 1))
-  rows_on o₀ at₀ o o' q a b c h g =
-      let z : b + 1 - 1 ≡ b = omega arith in
-      let X = joined (map (byte_row A S s) (span (b + 1) (256 - (b + 1)))) in
-      subst (λ v. Left o₀ at₀ (rows_bytes A S s) o' a.at (each row_bytes (ahead (row_of a.lo v a.deed) X))) (sym z)
-      (left_on h (ap (λ v. each row_bytes (ahead (row_of q.lo (b - 1) q.deed) v)) (rows_cons (byte_row A S s) b c) ∙ g.rest X) g.out)
+  module _ {p₀ p : Pen} {q : Open} {b : ℕ} (h : Rows p₀ p q b) where
+    pub rows_on : b < 256 → {p' : Pen} {a : Open} → GoesOn A S s p p' q b a → Rows p₀ p' a (b + 1)
+    rows_on c {p'} {a} g =
+        let z : b + 1 - 1 ≡ b = omega arith in
+        let X = joined (map (byte_row A S s) (span (b + 1) (256 - (b + 1)))) in
+        record {
+          within = omega (arith, h.within, g.within);
+          does = subst (λ v. Does A S s v a.deed) (sym z) g.does;
+          left =
+              subst (λ v. Left p₀ (rows_bytes A S s) p' (each row_bytes (ahead (row_of a.lo v a.deed) X))) (sym z)
+              (left_on h.left (ap (λ v. each row_bytes (ahead (row_of q.lo (b - 1) q.deed) v)) (rows_cons (byte_row A S s) b c) ∙ g.rest X) g.out);
+        }
 
-  pub rows_end : (o₀ : List ℕ) (at₀ : ℕ) (o o' : List ℕ) (q : Open) (b r : ℕ) → b ≡ 256 → Left o₀ at₀ (rows_bytes A S s) o q.at (rest_rows q b) → Wrote o o' q.at (row_bytes (row_of q.lo 255 q.deed)) r → Wrote o₀ o' at₀ (rows_bytes A S s) r
-  rows_end o₀ at₀ o o' q b r e h w =
-      let z : 255 ≡ b - 1 = omega arith in
-      let n = sym (rows_none (byte_row A S s) b (omega arith)) in
-      left_last h
-      (subst (λ v. Wrote o o' q.at v r) (sym (append-nil (row_bytes (row_of q.lo 255 q.deed))) ∙ (λ i. each row_bytes (ahead (row_of q.lo (z i) q.deed) (n i)))) w)
-
-  pub does_again : (b : ℕ) (d : Deed) → Does A S s b d → Does A S s (b + 1 - 1) d
-  does_again b d h = let z : b ≡ b + 1 - 1 = omega arith in subst (λ v. Does A S s v d) z h
-
-  -- what the loop keeps, after byte b
-  pub rows_step : (o₀ : List ℕ) (at₀ : ℕ) (o o' : List ℕ) (q a : Open) (b : ℕ) → b < 256 → q.at + 196 ≤ at₀ + 196 * b → Left o₀ at₀ (rows_bytes A S s) o q.at (rest_rows q b) → GoesOn A S s o o' q b a
-      → (a.at + 196 ≤ at₀ + 196 * (b + 1)) × (Does A S s (b + 1 - 1) a.deed × Left o₀ at₀ (rows_bytes A S s) o' a.at (rest_rows a (b + 1)))
-  rows_step o₀ at₀ o o' q a b c m h g = (omega (arith, g.within), (does_again b a.deed g.does, rows_on o₀ at₀ o o' q a b c h g))
+    pub rows_end : b ≡ 256 → {p' : Pen} → Writes p p' (row_bytes (row_of q.lo 255 q.deed)) → Writes p₀ p' (rows_bytes A S s)
+    rows_end e w =
+        let z : 255 ≡ b - 1 = omega arith in
+        let n = sym (rows_none (byte_row A S s) b (omega arith)) in
+        left_last h.left
+        (writes_as w (sym (append-nil (row_bytes (row_of q.lo 255 q.deed))) ∙ (λ i. each row_bytes (ahead (row_of q.lo (z i) q.deed) (n i)))))

@@ -1,5 +1,6 @@
 pub mod Commands
 pub mod Writing
+pub mod Sound
 pub mod Deeds
 pub mod Joining
 pub mod Tables

@@ -7,13 +7,16 @@ use native.Mathlib.Omega.{arith}
 use lib.Dec.{ltb}
 use lib.ListN.{length}
 use borrow.Author.Tests.{le-ltb, ltb-false}
+use Rattle.std.specs.Prelude.{Result, Ok, Err}
+use Rattle.answers.specs.declared.Refusal.{Refusal}
+use Rattle.answers.proofs.Refusals.{code_one, code_above_ok}
 use Rattle.ground.specs.Pick.{pick}
 use Rattle.net.specs.Rec.{Net}
 use Rattle.net.specs.Items.{NetRead, net, refused, NetFault, net_kind, net_short, net_field, net_extra, net_of, number}
 use Rattle.paths.specs.Limits.{OverRegisters, OverSituations}
 use Rattle.card.specs.Table.{bytes_of}
 use Rattle.build.specs.Card.{table_of}
-use Rattle.build.specs.Build.{over_registers, over_situations, Done, refuses, gives, makes, of_net, build_of, Builds}
+use Rattle.build.specs.Build.{over_registers, over_situations, Done, refuses, gives, makes, of_net, build_of, Answer, answered, Builds}
 use Rattle.build.specs.declared.Built.{Built}
 use Rattle.build.proofs.Verdict.{registers_true, registers_only, situations_true, situations_only}
 
@@ -53,7 +56,7 @@ not_true true h n = absurd (n (h refl))
 not_true false h n = refl
 
 not_false : {P : Type 0} (c : Bool) → c ≡ false → (P → c ≡ true) → ¬ P
-not_false c e h p = let z : ◌≡◌ {A = Bool} true false = sym (h p) ∙ e in let n : ◌≡◌ {A = ℕ} 0 1 = cc in omega arith
+not_false c e h p = let z = h p in cc
 
 -- a legal file and enough work memory
 module _ (file : List ℕ) (room : ℕ) (out : List ℕ) where
@@ -153,5 +156,11 @@ module _ (file : List ℕ) (room : ℕ) (out : List ℕ) where
 
 -- ---- a second result that keeps the promise
 
-pub build_one : (file work out : List ℕ) (w w' o o' : List ℕ) (a a' : Built) → Builds file work out w o a → Builds file work out w' o' a' → (a ≡ a') × ((o ≡ o') × (w ≡ w'))
-build_one file work out w w' o o' a a' p q = (p.result ∙ sym q.result, (p.wrote ∙ sym q.wrote, p.zero ∙ sym q.zero))
+answered_one : (a b : Result Built Refusal) → answered a ≡ answered b → a ≡ b
+answered_one (Ok a) (Ok b) p = ap (λ (c : Answer). Ok (record { length = c.length; situations = c.situations; registers = c.registers })) p
+answered_one (Ok a) (Err f) p = absurd (omega (arith, ap (λ (c : Answer). c.code) p, code_above_ok f))
+answered_one (Err e) (Ok b) p = absurd (omega (arith, ap (λ (c : Answer). c.code) p, code_above_ok e))
+answered_one (Err e) (Err f) p = ap Err (code_one e f (ap (λ (c : Answer). c.code) p))
+
+pub build_one : (file work out : List ℕ) (w w' o o' : List ℕ) (a a' : Result Built Refusal) → Builds file work out w o (answered a) → Builds file work out w' o' (answered a') → (a ≡ a') × ((o ≡ o') × (w ≡ w'))
+build_one file work out w w' o o' a a' p q = (answered_one a a' (p.result ∙ sym q.result), (p.wrote ∙ sym q.wrote, p.zero ∙ sym q.zero))

@@ -1,16 +1,17 @@
 -- The parts of a table beside its rows: ENDs, fields, the start, the largest need. Assumes nothing.
-use mathlib.Core.Path.{◌≡◌, refl, sym, ap, ◌∙◌, subst}
+use mathlib.Core.Path.{◌≡◌, refl, sym, ap, ◌∙◌}
 use mathlib.Core.Bool.{Bool, true, false, cond}
 use mathlib.Core.List.{List, [], ◌∷◌, ◌++◌, map}
 use mathlib.Core.Option.{Option, none, some}
 use Prim.Native.Nat.{ℕ, suc, ◌+◌, ◌-◌, ◌*◌, ◌≤◌, ◌<◌, max}
 use native.Mathlib.Numerals.{add-one}
-use native.Mathlib.Nat.{max-zero, zero-max, max-eq_left, max-eq_right, max-le, le-max_left, le-max_right}
 use native.Mathlib.Omega.{arith}
 use lib.Dec.{eqb}
-use lib.ListN.{length, get_or, drop, length-map, drop_of_length-le}
+use lib.ListN.{length, get_or, drop, replicate, length-map, drop_of_length-le}
 use lib.Seq.{drop-cons}
 use borrow.Author.Tests.{eqb-true}
+use Rattle.std.specs.Prelude as std
+use Rattle.std.specs.Prelude.{Some, None, unwrap_or}
 use Rattle.ground.specs.Lists.{each}
 use Rattle.net.specs.Rec.{Rec, range, mask, fork, tag, end, Net, rec}
 use Rattle.paths.specs.Situation.{ending, first_end}
@@ -19,15 +20,14 @@ use Rattle.card.specs.Table.{put, cmd_bytes, row_bytes, sit_bytes, bytes_of}
 use Rattle.explore.specs.Lists.{span}
 use Rattle.explore.specs.States.{opt, tags_of, thread_of}
 use Rattle.explore.specs.Onward.{closing_of}
-use Rattle.explore.specs.Slots.{thread_at, threads_at, slot, slots, Loaded}
+use Rattle.explore.specs.Slots.{thread_at, threads_at, slot, slots}
 use Rattle.explore.specs.declared.Entry.{Entry}
-use Rattle.explore.specs.declared.Closing.TheVariants.{Open, With}
 use Rattle.explore.proofs.Memory.{threads_at_length, threads_at_at}
-use Rattle.explore.proofs.Exploration.{slots_length, loaded}
+use Rattle.explore.proofs.Exploration.{slots_length}
 use Rattle.build.specs.Card.{State, need, most, byte_row, joined, answer_of, field_of, fields_of, sit_of, card_of}
-use Rattle.build.specs.Writing.{Wrote, Closed, Given, Ends, All, rows_bytes, sits_bytes}
-use Rattle.build.specs.declared.Ending.{Ending}
-use Rattle.build.proofs.Writing.{Left, left_all, left_on, left_none}
+use Rattle.build.specs.Writing.{Writes, Ends, rows_bytes, sits_bytes}
+use Rattle.build.specs.declared.Pen.{Pen}
+use Rattle.build.proofs.Writing.{Left, left_on, left_none}
 
 -- ---- the first END of a list
 
@@ -55,18 +55,18 @@ fields_are : (l : List ℕ) → map field_of (tags_of l) ≡ l
 fields_are [] = refl
 fields_are (v ∷ l) = let p = field_is v in let q = fields_are l in λ i. p i ∷ q i
 
-open_rec : (c : Rec) {X : Type 0} (x : X) (o : Option (ℕ × X)) → Open ≡ closing_of c → ending c x o ≡ o
+open_rec : (c : Rec) {X : Type 0} (x : X) (o : Option (ℕ × X)) → None ≡ closing_of c → ending c x o ≡ o
 open_rec (range lo hi n) x o e = refl
 open_rec (mask bits n) x o e = refl
 open_rec (fork p q) x o e = refl
 open_rec (tag t n) x o e = refl
-open_rec (end a) x o e = let z : ◌≡◌ {A = ℕ} 0 1 = cc in absurd (omega arith)
+open_rec (end a) x o e = cc
 
-end_rec : (c : Rec) {X : Type 0} (x : X) (o : Option (ℕ × X)) (a : ℕ) → With a ≡ closing_of c → ending c x o ≡ some (a, x)
-end_rec (range lo hi n) x o a e = let z : ◌≡◌ {A = ℕ} 0 1 = cc in absurd (omega arith)
-end_rec (mask bits n) x o a e = let z : ◌≡◌ {A = ℕ} 0 1 = cc in absurd (omega arith)
-end_rec (fork p q) x o a e = let z : ◌≡◌ {A = ℕ} 0 1 = cc in absurd (omega arith)
-end_rec (tag t n) x o a e = let z : ◌≡◌ {A = ℕ} 0 1 = cc in absurd (omega arith)
+end_rec : (c : Rec) {X : Type 0} (x : X) (o : Option (ℕ × X)) (a : ℕ) → Some a ≡ closing_of c → ending c x o ≡ some (a, x)
+end_rec (range lo hi n) x o a e = cc
+end_rec (mask bits n) x o a e = cc
+end_rec (fork p q) x o a e = cc
+end_rec (tag t n) x o a e = cc
 end_rec (end b) x o a e = let z : a ≡ b = cc in ap (λ v. some (v, x)) (sym z)
 
 module _ (A : Net) (s : List ℕ) (i : ℕ) (so : first_end A (slot s 0) ≡ first_end A (drop i (slot s 0))) where
@@ -75,23 +75,19 @@ module _ (A : Net) (s : List ℕ) (i : ℕ) (so : first_end A (slot s 0) ≡ fir
     unfolding thread_of
     at_it = so ∙ ap (first_end A) (thread_here s i d b at)
 
-    pub no_end : Open ≡ closing_of (rec A d.on) → first_end A (slot s 0) ≡ first_end A (drop (i + 1) (slot s 0))
+    pub no_end : None ≡ closing_of (rec A d.on) → first_end A (slot s 0) ≡ first_end A (drop (i + 1) (slot s 0))
     no_end e = at_it ∙ open_rec (rec A d.on) (tags_of d.had) (first_end A (drop (i + 1) (slot s 0))) e
 
-    pub an_end : (a : ℕ) → With a ≡ closing_of (rec A d.on) → Ends A (slot s 0) (record { answer = a; had = d.had })
-    an_end a e =
-        let h = at_it ∙ end_rec (rec A d.on) (tags_of d.had) (first_end A (drop (i + 1) (slot s 0))) a e in
-        record { answer = sym (ap answer_of h); fields = sym (ap fields_of h ∙ fields_are d.had) }
+    pub an_end : (a : ℕ) → Some a ≡ closing_of (rec A d.on) → Ends A (slot s 0) (Some (a, d.had))
+    an_end a e = at_it ∙ end_rec (rec A d.on) (tags_of d.had) (first_end A (drop (i + 1) (slot s 0))) a e
 
-  pub none_ends : get_or s 0 0 ≤ i → Ends A (slot s 0) (record { answer = 255; had = 255 ∷ 255 ∷ 255 ∷ 255 ∷ 255 ∷ 255 ∷ 255 ∷ 255 ∷ [] })
-  none_ends b =
-      let h = so ∙ ap (first_end A) (threads_done s i b) in
-      record { answer = sym (ap answer_of h); fields = sym (ap fields_of h) }
+  pub none_ends : get_or s 0 0 ≤ i → Ends A (slot s 0) None
+  none_ends b = so ∙ ap (first_end A) (threads_done s i b)
 
--- ---- bytes of a list
-
-pub byte_here : (l : List ℕ) (i : ℕ) → i < length l → drop i l ≡ (get_or l i 0 ∷ []) ++ drop (i + 1) l
-byte_here l i b = drop-cons l i 0 b ∙ ap (λ v. get_or l i 0 ∷ drop v l) (sym (add-one i))
+-- what is written for it, 255 where there is none
+written : (A : Net) (s : State) (o : std.Option (ℕ × List ℕ)) → Ends A s o → (e : ℕ × List ℕ) → e ≡ unwrap_or o (255, replicate 8 255) → (e.0 ≡ answer_of (first_end A s)) × (e.1 ≡ fields_of (first_end A s))
+written A s None h e p = (ap (λ v. v.0) p ∙ sym (ap answer_of h), ap (λ v. v.1) p ∙ sym (ap fields_of h))
+written A s (Some x) h e p = (ap (λ v. v.0) p ∙ sym (ap answer_of h), ap (λ v. v.1) p ∙ sym (ap fields_of h ∙ fields_are x.1))
 
 -- ---- the start
 
@@ -107,14 +103,11 @@ sets_none k n b = let e : n - k ≡ 0 = omega arith in ap (λ v. each cmd_bytes 
 abbrev pub rest_sets : ℕ → ℕ → List ℕ
 rest_sets k n = each cmd_bytes (map put (span k (n - k)))
 
-pub sets_start : (o : List ℕ) (at n : ℕ) → Left o at (each cmd_bytes (map put (span 0 n))) o at (rest_sets 0 n)
-sets_start o at n = let e : n ≡ n - 0 = omega arith in subst (λ v. Left o at (each cmd_bytes (map put (span 0 n))) o at (each cmd_bytes (map put (span 0 v)))) e (left_all o at (each cmd_bytes (map put (span 0 n))))
-
-module _ {o₀ : List ℕ} {at₀ : ℕ} {all : List ℕ} {o : List ℕ} {at : ℕ} (k n : ℕ) (h : Left o₀ at₀ all o at (rest_sets k n)) where
-  pub sets_on : k < n → {o' : List ℕ} {r : ℕ} → Wrote o o' at (0x25 ∷ k ∷ []) r → Left o₀ at₀ all o' r (rest_sets (k + 1) n)
+module _ {p₀ : Pen} {all : List ℕ} {p : Pen} (k n : ℕ) (h : Left p₀ all p (rest_sets k n)) where
+  pub sets_on : k < n → {p' : Pen} → Writes p p' (0x25 ∷ k ∷ []) → Left p₀ all p' (rest_sets (k + 1) n)
   sets_on b w = left_on h (sets_cons k n b) w
 
-  pub sets_done : n ≤ k → Wrote o₀ o at₀ all at
+  pub sets_done : n ≤ k → Writes p₀ p all
   sets_done b = left_none h (sets_none k n b)
 
 -- ---- the largest need
@@ -127,50 +120,27 @@ slots_none : (w : List ℕ) (j n : ℕ) → n ≡ 0 → slots w j n ≡ []
 unfolding slots
 slots_none w j n e = ap (slots w j) e
 
-max_assoc : (a b c : ℕ) → max (max a b) c ≡ max a (max b c)
-max_assoc a b c =
-    let p : max (max a b) c ≤ max a (max b c) = max-le (max-le (le-max_left a (max b c)) (omega (arith, le-max_right a (max b c), le-max_left b c))) (omega (arith, le-max_right a (max b c), le-max_right b c)) in
-    let q : max a (max b c) ≤ max (max a b) c = max-le (omega (arith, le-max_left (max a b) c, le-max_left a b)) (max-le (omega (arith, le-max_left (max a b) c, le-max_right a b)) (le-max_right (max a b) c)) in
-    omega arith
-
-module _ (w : List ℕ) (count : ℕ) where
-  pub most_start : max 0 (most (slots w 0 (count - 0))) ≡ most (slots w 0 count)
-  most_start = let e : count - 0 ≡ count = omega arith in zero-max (most (slots w 0 (count - 0))) ∙ ap (λ v. most (slots w 0 v)) e
-
-  pub most_on : (m k j : ℕ) → j < count → k ≡ length (registers (slot w j)) → max m (most (slots w j (count - j))) ≡ most (slots w 0 count) → max (max m k) (most (slots w (j + 1) (count - (j + 1)))) ≡ most (slots w 0 count)
-  most_on m k j b e h =
+module _ (w : List ℕ) (count m j : ℕ) (h : max m (most (slots w j (count - j))) ≡ most (slots w 0 count)) where
+  pub most_on : (k : ℕ) → j < count → k ≡ length (registers (slot w j)) → max (max m k) (most (slots w (j + 1) (count - (j + 1)))) ≡ most (slots w 0 count)
+  most_on k b e =
       let z : count - j ≡ suc (count - (j + 1)) = omega arith in
-      max_assoc m k (most (slots w (j + 1) (count - (j + 1))))
-      ∙ ap (λ v. max m (max v (most (slots w (j + 1) (count - (j + 1)))))) e
-      ∙ ap (λ v. max m (most v)) (sym (slots_cons w j (count - j) (count - (j + 1)) z)) ∙ h
+      let c = ap most (slots_cons w j (count - j) (count - (j + 1)) z) in
+      omega arith
 
-  pub most_end : (m j : ℕ) → count ≤ j → max m (most (slots w j (count - j))) ≡ most (slots w 0 count) → m ≡ most (slots w 0 count)
-  most_end m j b h = let z : count - j ≡ 0 = omega arith in sym (max-zero m) ∙ ap (λ v. max m (most v)) (sym (slots_none w j (count - j) z)) ∙ h
-
-pub larger : (m k : ℕ) → m < k → k ≡ max m k
-larger m k h = sym (max-eq_right (omega arith))
-
-pub smaller : (m k : ℕ) → k ≤ m → m ≡ max m k
-smaller m k h = sym (max-eq_left h)
+  pub most_end : count ≤ j → m ≡ most (slots w 0 count)
+  most_end b =
+      let z : count - j ≡ 0 = omega arith in
+      let c = ap most (slots_none w j (count - j) z) in
+      omega arith
 
 -- ---- one situation
 
-module _ (A : Net) (N : ℕ) (w : List ℕ) (count i : ℕ) (all : All A N w count) (b : i < count) (s : List ℕ) (e : Loaded w i s) where
-  pub given : Given A N w count s
-  given =
-      let m = loaded N w i s (all.kept.holds i b) e in
-      record {
-        kept = all.kept;
-        holds = m.1;
-        size = e.size;
-        leads = λ c d. subst (λ v. Closed A (slots w 0 count) v c) (sym m.0) (all.leads i c b d);
-      }
-
-pub sit_is : (A : Net) (S : List State) (s s₀ : State) (e : Ending) → s ≡ s₀ → Ends A s e → 0x22 ∷ e.answer ∷ (e.had ++ rows_bytes A S s) ≡ sit_bytes (sit_of A S s₀)
+pub sit_is : (A : Net) (S : List State) (s s₀ : State) → s ≡ s₀ → (o : std.Option (ℕ × List ℕ)) → Ends A s o → (e : ℕ × List ℕ) → e ≡ unwrap_or o (255, replicate 8 255) → 0x22 ∷ e.0 ∷ (e.1 ++ rows_bytes A S s) ≡ sit_bytes (sit_of A S s₀)
 unfolding sit_of rows_bytes
-sit_is A S s s₀ e q h =
-    let x = h.answer in
-    let y = h.fields in
+sit_is A S s s₀ q o h e p =
+    let w = written A s o h e p in
+    let x = w.0 in
+    let y = w.1 in
     (λ i. 0x22 ∷ x i ∷ (y i ++ each row_bytes (joined (map (byte_row A S s) (span 0 256))))) ∙ ap (λ v. sit_bytes (sit_of A S v)) q
 
 -- ---- all of them
@@ -180,11 +150,6 @@ abbrev pub rest_sits : Net → List ℕ → ℕ → ℕ → List ℕ
 rest_sits A w count i = sits_bytes A (slots w 0 count) (slots w i (count - i))
 
 module _ (A : Net) (w : List ℕ) (count : ℕ) where
-  pub sits_start : (o : List ℕ) (at : ℕ) → Left o at (sits_bytes A (slots w 0 count) (slots w 0 count)) o at (rest_sits A w count 0)
-  sits_start o at =
-      let e : count ≡ count - 0 = omega arith in
-      subst (λ v. Left o at (sits_bytes A (slots w 0 count) (slots w 0 count)) o at (sits_bytes A (slots w 0 count) (slots w 0 v))) e (left_all o at (sits_bytes A (slots w 0 count) (slots w 0 count)))
-
   sits_cons : (i : ℕ) → i < count → rest_sits A w count i ≡ sit_bytes (sit_of A (slots w 0 count) (slot w i)) ++ rest_sits A w count (i + 1)
   unfolding sits_bytes
   sits_cons i b =
@@ -195,11 +160,11 @@ module _ (A : Net) (w : List ℕ) (count : ℕ) where
   unfolding sits_bytes
   sits_none i b = let e : count - i ≡ 0 = omega arith in ap (λ v. each sit_bytes (map (sit_of A (slots w 0 count)) v)) (slots_none w i (count - i) e)
 
-  module _ {o₀ : List ℕ} {at₀ : ℕ} {all : List ℕ} {o : List ℕ} {at : ℕ} (i : ℕ) (h : Left o₀ at₀ all o at (rest_sits A w count i)) where
-    pub sits_on : i < count → {o' : List ℕ} {r : ℕ} → Wrote o o' at (sit_bytes (sit_of A (slots w 0 count) (slot w i))) r → Left o₀ at₀ all o' r (rest_sits A w count (i + 1))
+  module _ {p₀ : Pen} {all : List ℕ} {p : Pen} (i : ℕ) (h : Left p₀ all p (rest_sits A w count i)) where
+    pub sits_on : i < count → {p' : Pen} → Writes p p' (sit_bytes (sit_of A (slots w 0 count) (slot w i))) → Left p₀ all p' (rest_sits A w count (i + 1))
     sits_on b v = left_on h (sits_cons i b) v
 
-    pub sits_done : count ≤ i → Wrote o₀ o at₀ all at
+    pub sits_done : count ≤ i → Writes p₀ p all
     sits_done b = left_none h (sits_none i b)
 
 -- ---- the whole table

@@ -2,37 +2,40 @@
 use mathlib.Core.Path.{◌≡◌, refl, sym, ap, ◌∙◌, subst}
 use mathlib.Core.Logic.{◌⊎◌, inl, inr}
 use mathlib.Core.Bool.{Bool, true, false, ◌||◌}
-use mathlib.Core.List.{List, [], ◌∷◌, ◌++◌}
+use mathlib.Core.List.{List, [], ◌∷◌}
 use Prim.Native.Nat.{ℕ, zero, suc, ◌+◌, ◌≤◌, ◌<◌}
 use native.Mathlib.Omega.{arith}
-use lib.Dec.{eqb, ltb}
-use native.Mathlib.Numerals.{add-one}
-use lib.ListN.{length, get_or, take, set, replicate, replicate-append-replicate}
-use lib.Seq.{get_or-take, sets, take-suc-set, take_all}
-use borrow.Author.Tests.{lt-ltb, le-ltb, ltb-true, eqb-true, eqb-false}
+use lib.Dec.{ltb}
+use lib.ListN.{length, get_or, take}
+use lib.Seq.{get_or-take, sets}
+use borrow.Author.Tests.{lt-ltb, le-ltb, ltb-true}
 use Rattle.ground.specs.Pick.{pick}
+use Rattle.answers.specs.Refusals as refusals
+use Rattle.answers.specs.declared.Refusal.{Refusal}
+use Rattle.answers.specs.declared.Refusal.TheVariants.{Registers, Situations}
+use Rattle.answers.proofs.Refusals.{code_above_ok}
 use Rattle.net.specs.Rec.{Rec, range, mask, fork, tag, end, Net}
-use Rattle.net.specs.Items.{NetRead, net, refused, net_of, code_of, rec_at, net_at, Placed}
+use Rattle.net.specs.Items.{NetRead, net, refused, net_of, code_of, rec_at, Placed}
 use Rattle.net.specs.File.{Fits}
-use Rattle.net.specs.Calls.{LayoutOf}
+use Rattle.net.specs.Calls.{Laid}
 use Rattle.net.specs.declared.Layout.{Layout}
-use Rattle.paths.specs.Registers.{registers, situation}
+use Rattle.paths.specs.Registers.{situation}
 use Rattle.paths.specs.Equal.{same_situation}
 use Rattle.paths.specs.Numbering.{numbered}
-use Rattle.paths.specs.Limits.{all, first, OverRegisters, OverSituations, Closes}
+use Rattle.paths.specs.Limits.{all, OverRegisters, OverSituations}
 use Rattle.paths.proofs.Member.{Bool-cases}
-use Rattle.paths.proofs.Limits.{first_97, numbered_at, numbered_zero, closed_numbered, closes_registers, closes_situations, stop_registers, stop_situations}
+use Rattle.paths.proofs.Limits.{first_97, numbered_at, closes_registers, closes_situations, stop_registers, stop_situations}
 use Rattle.card.specs.Table.{bytes_of}
 use Rattle.explore.specs.Items.{Inside, Formed}
-use Rattle.explore.specs.Slots.{slot, slots}
-use Rattle.explore.specs.Explore.{Kept, Explores}
-use Rattle.explore.specs.declared.Tried.{Tried}
-use Rattle.explore.proofs.Exploration.{slots_length, slots_at}
-use Rattle.explore.proofs.Closed.{span_bytes, closed, numbered_first}
+use Rattle.explore.specs.Slots.{slots}
+use Rattle.explore.specs.Explore.{Stopped}
+use Rattle.explore.proofs.Exploration.{slots_length}
+use Rattle.explore.proofs.Closed.{span_bytes, numbered_first}
 use Rattle.build.specs.Card.{State, states, need, most, card_of, table_of}
-use Rattle.build.specs.Writing.{Wrote, Closed, All}
-use Rattle.build.specs.Build.{any, over_registers, over_situations, refusal, makes, of_net, build_of, Makes, Attempts}
-use Rattle.build.specs.declared.Built.{Built}
+use Rattle.build.specs.Writing.{Explored}
+use Rattle.build.proofs.Sound.{closes}
+use Rattle.build.specs.Build.{any, over_registers, over_situations, Answer, refusal, makes, of_net, build_of, Makes, Attempts}
+use Rattle.ground.specs.Lists.{Wrote}
 
 -- ---- the limits
 
@@ -47,7 +50,7 @@ module _ {X : Type 0} (f : X → Bool) (d : X) where
       by false h = h
 
   any_some : (l : List X) → any f l ≡ true → (k : ℕ) × ((k < length l) × (f (get_or l k d) ≡ true))
-  any_some [] e = absurd (let z : ◌≡◌ {A = ℕ} 0 1 = cc in omega arith)
+  any_some [] e = cc
   any_some (x ∷ l) e = by (any_some l) (Bool-cases (f x)) e
     where
       by : (any f l ≡ true → (k : ℕ) × ((k < length l) × (f (get_or l k d) ≡ true))) → (f x ≡ true) ⊎ (f x ≡ false) → (f x || any f l) ≡ true → (k : ℕ) × ((k < suc (length l)) × (f (get_or (x ∷ l) k d) ≡ true))
@@ -111,121 +114,77 @@ not_so false h n = refl
 
 -- ---- after the exploration
 
-module _ (A : Net) (tags : ℕ) (out : List ℕ) (a : Built) where
-  answers_10 : over_registers A ≡ true → a ≡ refusal 10 → Makes tags A out out a
+module _ (A : Net) (tags : ℕ) (out : List ℕ) where
+  answers_10 : over_registers A ≡ true → Makes tags A out out (refusal 10)
   unfolding makes pick
-  answers_10 p e = record { result = rw p e; wrote = rw p refl }
+  answers_10 p = record { result = rw p refl; wrote = rw p refl }
 
-  answers_11 : over_registers A ≡ false → over_situations A ≡ true → a ≡ refusal 11 → Makes tags A out out a
+  answers_11 : over_registers A ≡ false → over_situations A ≡ true → Makes tags A out out (refusal 11)
   unfolding makes pick
-  answers_11 p r e = record { result = rw (p, r) e; wrote = rw (p, r) refl }
+  answers_11 p r = record { result = rw (p, r) refl; wrote = rw (p, r) refl }
 
-module _ (A : Net) (N : ℕ) (w w' : List ℕ) (t : Tried) (x : Explores A N w w' t) (tags : ℕ) (out : List ℕ) where
-  pub stopped : (t.answer ≡ 0 → ⊥) → (a : Built) → a ≡ refusal t.answer → Makes tags A out out a
-  stopped h a e = by (Bool-cases (eqb t.answer 10))
-    where
-      by : (eqb t.answer 10 ≡ true) ⊎ (eqb t.answer 10 ≡ false) → Makes tags A out out a
-      by (inl z) = let q = eqb-true t.answer 10 z in answers_10 A tags out a (registers_true A (stop_registers A (x.regs q))) (e ∙ ap refusal q)
-      by (inr z) =
-          let q = x.one_of h (eqb-false t.answer 10 z) in
-          let s = stop_situations A (x.sits q) in
-          answers_11 A tags out a (not_so (over_registers A) (registers_only A) s.1) (situations_true A s.0) (e ∙ ap refusal q)
+  pub stopped : (e : Refusal) → Stopped A e → Makes tags A out out (refusal (refusals.code_of e))
+  stopped Registers x = answers_10 (registers_true A (stop_registers A x))
+  stopped Situations x = let s = stop_situations A x in answers_11 (not_so (over_registers A) (registers_only A) s.1) (situations_true A s.0)
+  stopped _ x = absurd x
 
-  module _ (ok : t.answer ≡ 0) where
-    kept : Kept N w' t.count
-    kept = (x.fine ok).0
+module _ (A : Net) {N : ℕ} {w : List ℕ} {n : ℕ} (x : Explored A N w n) where
+  few_registers : over_registers A ≡ false
+  few_registers = not_so (over_registers A) (registers_only A) (closes_registers A (closes A x))
 
-    as_first : slots w' 0 t.count ≡ first A t.count
-    as_first = (x.fine ok).1.0
+  few_situations : over_situations A ≡ false
+  few_situations = not_so (over_situations A) (situations_only A) (closes_situations A (closes A x))
 
-    whole : length (first A t.count) ≡ t.count
-    whole = (x.fine ok).1.1
+  as_states : slots w 0 n ≡ states A
+  unfolding states
+  as_states = x.1.0 ∙ sym (numbered_first A n x.1.1 96 x.0.most)
 
-    slot_is : (i : ℕ) → i < t.count → get_or (first A t.count) i [] ≡ slot w' i
-    slot_is i b = let z : 0 + i ≡ i = omega arith in ap (λ v. get_or v i []) (sym as_first) ∙ slots_at w' 0 t.count i [] b ∙ ap (slot w') z
-
-    pub all_of : All A N w' t.count
-    all_of =
-        record {
-          kept = kept;
-          leads = λ i b c d.
-              subst (λ v. Closed A v (slot w' i) b) (sym as_first)
-              (subst (λ v. Closed A (first A t.count) v b) (slot_is i c) (closed A t.count whole i b c d));
-        }
-
-    zeroth : (0 < length (first A t.count)) × (get_or (first A t.count) 0 [] ≡ situation A [])
-    zeroth = closed_numbered A t.count (omega (arith, whole)) (numbered_zero A)
-
-    pub some_of : 0 < t.count
-    some_of = omega (arith, zeroth.0, whole)
-
-    pub start_of : slot w' 0 ≡ situation A []
-    start_of = sym (slot_is 0 some_of) ∙ zeroth.1
-
-    as_states : slots w' 0 t.count ≡ states A
-    unfolding states
-    as_states = as_first ∙ sym (numbered_first A t.count whole 96 kept.most)
-
-    closes : Closes A t.count
-    closes =
-        record {
-          whole = whole;
-          few = kept.most;
-          small = λ j b. subst (λ v. length (registers v) ≤ 64) (sym (slot_is j b)) (kept.holds j b).small;
-        }
-
-    few_registers : over_registers A ≡ false
-    few_registers = not_so (over_registers A) (registers_only A) (closes_registers A closes)
-
-    few_situations : over_situations A ≡ false
-    few_situations = not_so (over_situations A) (situations_only A) (closes_situations A closes)
-
-    table : card_of tags A (slots w' 0 t.count) ≡ table_of tags A
+  module _ (tags : ℕ) {o o' : List ℕ} {r : ℕ} (s : Wrote o o' 0 r (bytes_of (card_of tags A (slots w 0 n)))) (out : List ℕ) where
+    table : card_of tags A (slots w 0 n) ≡ table_of tags A
     unfolding table_of
     table = ap (card_of tags A) as_states
 
-    module _ (o o' : List ℕ) (r : ℕ) (s : Wrote o o' 0 (bytes_of (card_of tags A (slots w' 0 t.count))) r) where
-      length_is : r ≡ length (bytes_of (table_of tags A))
-      length_is = s.end ∙ zero_plus (length (bytes_of (card_of tags A (slots w' 0 t.count)))) ∙ ap (λ v. length (bytes_of v)) table
-        where
-          zero_plus : (n : ℕ) → 0 + n ≡ n
-          zero_plus n = omega arith
+    length_is : r ≡ length (bytes_of (table_of tags A))
+    length_is = s.on ∙ zero_plus (length (bytes_of (card_of tags A (slots w 0 n)))) ∙ ap (λ v. length (bytes_of v)) table
+      where
+        zero_plus : (n : ℕ) → 0 + n ≡ n
+        zero_plus n = omega arith
 
-      pub no_room : length out < r → (a : Built) → a ≡ refusal 12 → Makes tags A out out a
-      unfolding makes pick
-      no_room b a e =
-          let c : ltb (length out) (length (bytes_of (table_of tags A))) ≡ true = lt-ltb (length out) (length (bytes_of (table_of tags A))) (omega (arith, length_is)) in
-          record { result = rw (few_registers, few_situations, c) e; wrote = rw (few_registers, few_situations, c) refl }
+    pub no_room : length out < r → Makes tags A out out (refusal 12)
+    unfolding makes pick
+    no_room b =
+        let c : ltb (length out) (length (bytes_of (table_of tags A))) ≡ true = lt-ltb (length out) (length (bytes_of (table_of tags A))) (omega (arith, length_is)) in
+        record { result = rw (few_registers, few_situations, c) refl; wrote = rw (few_registers, few_situations, c) refl }
 
-      pub room : r ≤ length out → (out' : List ℕ) (r' : ℕ) → Wrote out out' 0 (bytes_of (card_of tags A (slots w' 0 t.count))) r' → (m : ℕ) → m ≡ most (slots w' 0 t.count) → Makes tags A out out' (record { code = 0; length = r; situations = t.count; registers = m })
-      unfolding makes pick
-      room b out' r' v m e =
-          let c : ltb (length out) (length (bytes_of (table_of tags A))) ≡ false = le-ltb (length out) (length (bytes_of (table_of tags A))) (omega (arith, length_is)) in
-          let l = length_is in
-          let n : t.count ≡ length (states A) = sym (slots_length w' 0 t.count) ∙ ap length as_states in
-          let k = e ∙ ap most as_states in
-          record {
-            result = rw (few_registers, few_situations, c) (λ i. record { code = 0; length = l i; situations = n i; registers = k i });
-            wrote = rw (few_registers, few_situations, c) (v.out ∙ ap (λ v. sets out 0 (bytes_of v)) table);
-          }
+    pub room : r ≤ length out → {out' : List ℕ} {r' : ℕ} → Wrote out out' 0 r' (bytes_of (card_of tags A (slots w 0 n))) → {m : ℕ} → m ≡ most (slots w 0 n) → Makes tags A out out' (record { code = 0; length = r; situations = n; registers = m })
+    unfolding makes pick
+    room b v e =
+        let c : ltb (length out) (length (bytes_of (table_of tags A))) ≡ false = le-ltb (length out) (length (bytes_of (table_of tags A))) (omega (arith, length_is)) in
+        let l = length_is in
+        let z : n ≡ length (states A) = sym (slots_length w 0 n) ∙ ap length as_states in
+        let k = e ∙ ap most as_states in
+        record {
+          result = rw (few_registers, few_situations, c) (λ i. record { code = 0; length = l i; situations = z i; registers = k i });
+          wrote = rw (few_registers, few_situations, c) (v.held ∙ ap (λ v. sets out 0 (bytes_of v)) table);
+        }
 
 -- ---- before it
 
 module _ (file : List ℕ) (size : ℕ) (out : List ℕ) where
-  pub small_room : size < 65536 → (a : Built) → a ≡ refusal 9 → Attempts file size out out a
+  pub small_room : size < 65536 → Attempts file size out out (refusal 9)
   unfolding build_of pick
-  small_room b a e = let c = lt-ltb size 65536 b in record { result = rw c e; wrote = rw c refl }
+  small_room b = let c = lt-ltb size 65536 b in record { result = rw c refl; wrote = rw c refl }
 
   module _ (b : 65536 ≤ size) where
-    no_net : (n : NetRead) → net_of file ≡ n → (code_of n ≡ 0 → ⊥) → (a : Built) → a ≡ refusal (code_of n) → Attempts file size out out a
+    no_net : (n : NetRead) → net_of file ≡ n → (code_of n ≡ 0 → ⊥) → Attempts file size out out (refusal (code_of n))
     unfolding build_of of_net pick code_of
-    no_net (net tags A) q h a e = absurd (h refl)
-    no_net (refused f) q h a e = let c = le-ltb size 65536 b in record { result = rw (c, q) e; wrote = rw (c, q) refl }
+    no_net (net tags A) q h = absurd (h refl)
+    no_net (refused f) q h = let c = le-ltb size 65536 b in record { result = rw (c, q) refl; wrote = rw (c, q) refl }
 
-    pub refused_net : (code : ℕ) → code ≡ code_of (net_of file) → (code ≡ 0 → ⊥) → (a : Built) → a ≡ refusal code → Attempts file size out out a
-    refused_net code p h a e = no_net (net_of file) refl (λ z. h (p ∙ z)) a (e ∙ ap refusal p)
+    pub refused_net : (e : Refusal) → refusals.code_of e ≡ code_of (net_of file) → Attempts file size out out (refusal (refusals.code_of e))
+    refused_net e p = subst (λ n. Attempts file size out out (refusal n)) (sym p) (no_net (net_of file) refl (λ z. omega (arith, p, z, code_above_ok e)))
 
-    pub taken_net : (tags : ℕ) (A : Net) → net_of file ≡ net tags A → (out' : List ℕ) (a : Built) → Makes tags A out out' a → Attempts file size out out' a
+    pub taken_net : (tags : ℕ) (A : Net) → net_of file ≡ net tags A → (out' : List ℕ) (a : Answer) → Makes tags A out out' a → Attempts file size out out' a
     unfolding build_of of_net pick
     taken_net tags A q out' a m = let c = le-ltb size 65536 b in record { result = rw (c, q) m.result; wrote = rw (c, q) m.wrote }
 
@@ -241,31 +200,5 @@ formed_of s tags offs p = record { few = p.few; whole = p.whole; inside = λ r b
 
 -- ---- the layout of a legal file
 
-long_enough : (n : ℕ) (l : List ℕ) → length (take n l) ≡ n → n ≤ length l
-long_enough zero l e = omega arith
-long_enough (suc n) [] e = absurd (omega arith)
-long_enough (suc n) (x ∷ l) e = omega (arith, long_enough n l (omega arith))
-
-module _ (s : List ℕ) (p : Layout) (h : LayoutOf s p) (ok : p.code ≡ 0) where
-  pub laid_room : p.count ≤ length p.at
-  laid_room = long_enough p.count p.at (h.counted ok)
-
-  module _ (m : ℕ) (e : m ≡ p.count) where
-    placed_at : Placed s p.tags (take m p.at)
-    placed_at = rw e (h.placed ok)
-
-    pub laid_ready : Formed s (take m p.at) × (0 < length (take m p.at))
-    laid_ready = (formed_of s p.tags (take m p.at) placed_at, omega (arith, placed_at.some))
-
-    pub laid_net : net_of s ≡ net p.tags (net_at s (take m p.at))
-    laid_net = placed_at.reads
-
--- ---- the clearing
-
-module _ (w : List ℕ) (i : ℕ) (h : take i w ≡ replicate i 0) where
-  pub cleared_more : i < length w → take (i + 1) (set w i 0) ≡ replicate (i + 1) 0
-  cleared_more b =
-      ap (λ v. take v (set w i 0)) (add-one i) ∙ take-suc-set w i 0 b ∙ ap (λ v. v ++ (0 ∷ [])) h ∙ replicate-append-replicate i 1 0
-
-  pub cleared_all : i ≡ length w → (n : ℕ) → length w ≡ n → w ≡ replicate n 0
-  cleared_all e n l = sym (take_all i w (omega arith)) ∙ h ∙ ap (λ v. replicate v 0) (e ∙ l)
+pub laid_ready : (s : List ℕ) (p : Layout) → Laid s p → Formed s (take p.count p.at) × (0 < length (take p.count p.at))
+laid_ready s p h = (formed_of s p.tags (take p.count p.at) h.placed, omega (arith, h.placed.some))

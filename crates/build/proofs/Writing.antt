@@ -1,71 +1,55 @@
 -- Bytes written one part after another. Assumes nothing.
-use mathlib.Core.Path.{◌≡◌, refl, sym, ap, ◌∙◌, subst}
-use mathlib.Core.List.{List, [], ◌∷◌, ◌++◌}
-use Prim.Native.Nat.{ℕ, suc, ◌+◌, ◌≤◌}
-use native.Mathlib.Omega.{arith}
-use lib.ListN.{length, set, length-append}
-use lib.Seq.{sets, length-sets, set_out}
-use Rattle.card.specs.Table.{Cmd, move, put, cmd_bytes}
-use Rattle.build.specs.Writing.{Wrote}
+use Rattle.std.proofs.Common.{◌≡◌, ℕ, ◌+◌, ◌<◌, ◌≤◌, List, [], ◌∷◌, ◌++◌, length, get_or, drop, refl, sym, ap, ◌∙◌, subst, arith, add-one, length-append}
+use lib.ListN.{set}
+use lib.Seq.{set_out, drop-cons}
+use Rattle.std.proofs.lemmas.List.Edits.{sets}
+use Rattle.ground.specs.Lists.{Wrote}
+use Rattle.ground.proofs.Stores.{sets_append}
+use Rattle.ground.proofs.Stores as stores
+use Rattle.build.specs.Writing.{Writes}
+use Rattle.build.specs.declared.Pen.{Pen}
 
-sets_append : (xs ys l : List ℕ) (i : ℕ) → sets l i (xs ++ ys) ≡ sets (sets l i xs) (i + length xs) ys
-sets_append [] ys l i = let z : i ≡ i + 0 = omega arith in ap (λ v. sets l v ys) z
-sets_append (x ∷ xs) ys l i =
-    let z : suc i + length xs ≡ i + suc (length xs) = omega arith in
-    sets_append xs ys (set l i x) (suc i) ∙ ap (λ v. sets (sets (set l i x) (suc i) xs) v ys) z
+pub writes_then : {p p' p'' : Pen} {xs ys : List ℕ} → Writes p p' xs → Writes p' p'' ys → Writes p p'' (xs ++ ys)
+writes_then {xs = xs} {ys} v w = record { same = w.same ∙ v.same; wrote = stores.wrote_then xs ys v.wrote w.wrote }
 
-pub wrote_one : (o : List ℕ) (at v : ℕ) → Wrote o (set o at v) at (v ∷ []) (at + 1)
-wrote_one o at v = record { out = refl; end = refl }
+pub writes_as : {p p' : Pen} {xs ys : List ℕ} → Writes p p' xs → xs ≡ ys → Writes p p' ys
+writes_as {p} {p'} w e = subst (Writes p p') e w
 
-pub wrote_past : (o : List ℕ) (at v : ℕ) → length o ≤ at → Wrote o o at (v ∷ []) (at + 1)
-wrote_past o at v h = record { out = sym (set_out o at v h); end = refl }
-
-pub wrote_then : {o o' o'' : List ℕ} {at r r' : ℕ} {xs ys : List ℕ} → Wrote o o' at xs r → Wrote o' o'' r ys r' → Wrote o o'' at (xs ++ ys) r'
-wrote_then {o} {o'} {o''} {at} {r} {r'} {xs} {ys} p q =
-    record {
-      out = q.out ∙ (λ k. sets (p.out k) (p.end k) ys) ∙ sym (sets_append xs ys o at);
-      end = omega (arith, p.end, q.end, length-append xs ys);
-    }
-
-pub wrote_size : {o o' : List ℕ} {at r : ℕ} {bs : List ℕ} → Wrote o o' at bs r → length o' ≡ length o
-wrote_size {o} {at = at} {bs = bs} p = ap length p.out ∙ length-sets o at bs
+-- what the pen lent is given back as the pen left it
+pub handed : {p p' : Pen} {bs x : List ℕ} → Writes p p' bs → (p.out.ghost_name ≡ p'.out.ghost_name → x ≡ p'.out.now) → Wrote p.out.now x p.at p'.at bs
+handed {p} {p'} {bs} w h = subst (λ v. Wrote p.out.now v p.at p'.at bs) (sym (h (sym w.same))) w.wrote
 
 -- what is left to write, and what will then have been written
-pub record Left (o₀ : List ℕ) (at₀ : ℕ) (all : List ℕ) (o : List ℕ) (at : ℕ) (bs : List ℕ) : Type 0 where
-  pub out : sets o at bs ≡ sets o₀ at₀ all
-  pub end : at + length bs ≡ at₀ + length all
+pub record Left (p₀ : Pen) (all : List ℕ) (p : Pen) (bs : List ℕ) : Type 0 where
+  pub same : p.out.ghost_name ≡ p₀.out.ghost_name
+  pub out : sets p.out.now p.at bs ≡ sets p₀.out.now p₀.at all
+  pub end : p.at + length bs ≡ p₀.at + length all
 
-pub left_all : (o : List ℕ) (at : ℕ) (all : List ℕ) → Left o at all o at all
-left_all o at all = record { out = refl; end = refl }
+pub left_all : (p : Pen) (all : List ℕ) → Left p all p all
+left_all p all = record { same = refl; out = refl; end = refl }
 
-module _ {o₀ : List ℕ} {at₀ : ℕ} {all : List ℕ} {o : List ℕ} {at : ℕ} where
-  pub left_on : {bs xs ys : List ℕ} → Left o₀ at₀ all o at bs → bs ≡ xs ++ ys → {o' : List ℕ} {r : ℕ} → Wrote o o' at xs r → Left o₀ at₀ all o' r ys
-  left_on {bs} {xs} {ys} h e {o'} {r} w =
+module _ {p₀ : Pen} {all : List ℕ} {p : Pen} where
+  pub left_on : {bs xs ys : List ℕ} → Left p₀ all p bs → bs ≡ xs ++ ys → {p' : Pen} → Writes p p' xs → Left p₀ all p' ys
+  left_on {bs} {xs} {ys} h e v =
+      let w = v.wrote in
       record {
-        out = (λ k. sets (w.out k) (w.end k) ys) ∙ sym (sets_append xs ys o at) ∙ ap (sets o at) (sym e) ∙ h.out;
-        end = omega (arith, h.end, w.end, ap length e, length-append xs ys);
+        same = v.same ∙ h.same;
+        out = (λ k. sets (w.held k) (w.on k) ys) ∙ sets_append xs ys p.out.now p.at ∙ ap (sets p.out.now p.at) (sym e) ∙ h.out;
+        end = omega (arith, h.end, w.on, ap length e, length-append xs ys);
       }
 
-  pub left_none : {bs : List ℕ} → Left o₀ at₀ all o at bs → bs ≡ [] → Wrote o₀ o at₀ all at
-  left_none {bs} h e =
-      record {
-        out = ap (sets o at) (sym e) ∙ h.out;
-        end = omega (arith, h.end, ap length e);
-      }
+  pub left_none : {bs : List ℕ} → Left p₀ all p bs → bs ≡ [] → Writes p₀ p all
+  left_none {bs} h e = record { same = h.same; wrote = record { held = ap (sets p.out.now p.at) (sym e) ∙ h.out; on = omega (arith, h.end, ap length e) } }
 
-  pub left_last : {bs : List ℕ} → Left o₀ at₀ all o at bs → {o' : List ℕ} {r : ℕ} → Wrote o o' at bs r → Wrote o₀ o' at₀ all r
-  left_last {bs} h {o'} {r} w = left_none' (w.out ∙ h.out) (omega (arith, h.end, w.end))
-    where
-      left_none' : o' ≡ sets o₀ at₀ all → r ≡ at₀ + length all → Wrote o₀ o' at₀ all r
-      left_none' p q = record { out = p; end = q }
+  pub left_last : {bs : List ℕ} → Left p₀ all p bs → {p' : Pen} → Writes p p' bs → Writes p₀ p' all
+  left_last {bs} h v = let w = v.wrote in record { same = v.same ∙ h.same; wrote = record { held = w.held ∙ h.out; on = omega (arith, h.end, w.on) } }
 
-  pub left_size : {bs : List ℕ} → Left o₀ at₀ all o at bs → length o ≡ length o₀
-  left_size {bs} h = sym (length-sets o at bs) ∙ ap length h.out ∙ length-sets o₀ at₀ all
+pub byte_here : (l : List ℕ) (i : ℕ) → i < length l → drop i l ≡ (get_or l i 0 ∷ []) ++ drop (i + 1) l
+byte_here l i b = drop-cons l i 0 b ∙ ap (λ v. get_or l i 0 ∷ drop v l) (sym (add-one i))
 
--- a command takes at most three bytes
-pub cmd_short : (c : Cmd) → length (cmd_bytes c) ≤ 3
-cmd_short (move a b) = omega arith
-cmd_short (put a) = omega arith
+-- one byte, where there is room and where there is none
+pub wrote_one : (o : List ℕ) (at v : ℕ) → Wrote o (set o at v) at (at + 1) (v ∷ [])
+wrote_one o at v = record { held = refl; on = refl }
 
-pub wrote_as : {o o' : List ℕ} {at r : ℕ} {xs ys : List ℕ} → Wrote o o' at xs r → xs ≡ ys → Wrote o o' at ys r
-wrote_as {o} {o'} {at} {r} w e = subst (λ v. Wrote o o' at v r) e w
+pub wrote_past : (o : List ℕ) (at v : ℕ) → length o ≤ at → Wrote o o at (at + 1) (v ∷ [])
+wrote_past o at v h = record { held = sym (set_out o at v h); on = refl }

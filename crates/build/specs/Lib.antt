@@ -1,3 +1,4 @@
+pub mod Orders
 pub mod Card
 pub mod Writing
 pub mod Build

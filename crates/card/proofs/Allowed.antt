@@ -10,8 +10,10 @@ use borrow.Author.Tests.{eq-eqb, ne_eqb, eqb-true, eqb-false, le-leb, leb-true, 
 use Rattle.ground.specs.Pick.{pick}
 use Rattle.card.specs.declared.form.Head.{Head}
 use Rattle.card.specs.declared.form.Cursor.{Cursor}
-use Rattle.card.specs.declared.form.Went.TheVariants.{Bad}
-use Rattle.card.specs.Form.{whole, kind_fault, sit_step, row_step, move_step, set_step, body_step, fault_of, step_form}
+use Rattle.std.proofs.Common.{Result, Ok, Err}
+use Rattle.card.specs.declared.form.Kind.{Kind}
+use Rattle.card.specs.declared.form.Kind.TheVariants.{Misplaced, Rows, Extra}
+use Rattle.card.specs.Form.{whole, kind_fault, sit_step, row_step, move_step, set_step, body_step, fault_of, if_fine, step_form}
 use Rattle.ground.proofs.Picks.{by_test}
 
 -- ---- every situation has begun, and the last one has its row to 255
@@ -51,22 +53,22 @@ pub record Allowed (kind begun lo sits : ℕ) : Type 0 where
   pub sit : kind ≡ 0x22 → (lo ≡ 256) × (begun < sits)
 
 module _ (kind begun lo sits : ℕ) where
-  May : ℕ → Type 0
-  May n = n ≡ 0 → Allowed kind begun lo sits
+  May : Result (Unit {0}) Kind → Type 0
+  May r = r ≡ Ok tt → Allowed kind begun lo sits
 
-  never : (n : ℕ) → 0 < n → May n
+  never : (k : Kind) → May (Err k)
   unfolding May
-  never n l z = absurd (omega arith)
+  never k z = cc
 
   below : (b : Bool) → leb sits begun ≡ b → lo ≡ 256 → whole begun lo sits ≡ false → begun < sits
   below true e h w = absurd (let z : ◌≡◌ {A = Bool} true false = sym (whole_made begun lo sits (leb-true sits begun e) h) ∙ w in let n : ◌≡◌ {A = ℕ} 0 1 = cc in omega arith)
   below false e h w = leb-false sits begun e
 
-  pub kind_told : kind_fault kind begun lo sits ≡ 0 → Allowed kind begun lo sits
+  pub kind_told : kind_fault kind begun lo sits ≡ Ok tt → Allowed kind begun lo sits
   unfolding kind_fault May
   kind_told =
       by_test May _ _ _
-      (λ k. let k' = eqb-true kind 0x24 k in by_test May _ _ _ (λ _. never 21 (omega arith)) (λ a. by_test May _ _ _ (λ _. never 21 (omega arith)) (λ b _.
+      (λ k. let k' = eqb-true kind 0x24 k in by_test May _ _ _ (λ _. never Misplaced) (λ a. by_test May _ _ _ (λ _. never Misplaced) (λ b _.
       let a' = eqb-false begun 0 a in
       let b' = eqb-false lo 0 b in
       record {
@@ -78,7 +80,7 @@ module _ (kind begun lo sits : ℕ) where
         sit = λ n. absurd (omega arith);
       })))
       (λ _. by_test May _ _ _
-      (λ k. let k' = eqb-true kind 0x25 k in by_test May _ _ _ (λ _. never 21 (omega arith)) (λ b _.
+      (λ k. let k' = eqb-true kind 0x25 k in by_test May _ _ _ (λ _. never Misplaced) (λ b _.
       let b' = eqb-false lo 0 b in
       record {
         least = omega arith;
@@ -88,8 +90,8 @@ module _ (kind begun lo sits : ℕ) where
         row = λ n. absurd (omega arith);
         sit = λ n. absurd (omega arith);
       }))
-      (λ _. by_test May _ _ _ (λ _. never 25 (omega arith)) (λ w. by_test May _ _ _
-      (λ k. let k' = eqb-true kind 0x23 k in by_test May _ _ _ (λ _. never 21 (omega arith)) (λ a. by_test May _ _ _ (λ _. never 24 (omega arith)) (λ b _.
+      (λ _. by_test May _ _ _ (λ _. never Extra) (λ w. by_test May _ _ _
+      (λ k. let k' = eqb-true kind 0x23 k in by_test May _ _ _ (λ _. never Misplaced) (λ a. by_test May _ _ _ (λ _. never Rows) (λ b _.
       let a' = eqb-false begun 0 a in
       record {
         least = omega arith;
@@ -108,49 +110,49 @@ module _ (kind begun lo sits : ℕ) where
         set = λ n. absurd (omega arith);
         row = λ n. absurd (omega arith);
         sit = λ _. (eqb-true lo 256 b, below (leb sits begun) refl (eqb-true lo 256 b) w);
-      }) (λ _. never 24 (omega arith)))
-      (λ _. never 21 (omega arith))))))
+      }) (λ _. never Rows))
+      (λ _. never Misplaced)))))
 
 module _ (begun lo sits : ℕ) where
-  pub kind_move : 0 < begun → 0 < lo → kind_fault 0x24 begun lo sits ≡ 0
+  pub kind_move : 0 < begun → 0 < lo → kind_fault 0x24 begun lo sits ≡ Ok tt
   unfolding pick kind_fault
   kind_move a b = simp (ne_eqb begun 0 (λ h. omega arith), ne_eqb lo 0 (λ h. omega arith))
 
-  pub kind_set : 0 < lo → kind_fault 0x25 begun lo sits ≡ 0
+  pub kind_set : 0 < lo → kind_fault 0x25 begun lo sits ≡ Ok tt
   unfolding pick kind_fault
   kind_set b = simp (ne_eqb lo 0 (λ h. omega arith))
 
-  pub kind_row : 0 < begun → (lo ≡ 256 → ⊥) → kind_fault 0x23 begun lo sits ≡ 0
+  pub kind_row : 0 < begun → (lo ≡ 256 → ⊥) → kind_fault 0x23 begun lo sits ≡ Ok tt
   unfolding pick kind_fault
   kind_row a b = simp (ne_eqb begun 0 (λ h. omega arith), whole_open begun lo sits b, ne_eqb lo 256 b)
 
-  pub kind_sit : lo ≡ 256 → begun < sits → kind_fault 0x22 begun lo sits ≡ 0
+  pub kind_sit : lo ≡ 256 → begun < sits → kind_fault 0x22 begun lo sits ≡ Ok tt
   unfolding pick kind_fault
   kind_sit a b = simp (whole_short begun lo sits b, eq-eqb lo 256 a)
 
 -- ---- the step is that of the item's kind
 
 module _ (s : List ℕ) (h : Head) (f : Cursor) where
-  pub step_bad : (k : ℕ) → k ≡ fault_of s h f → (k ≡ 0 → ⊥) → Bad k f.at ≡ step_form s h f
-  unfolding pick step_form
-  step_bad k e n = ap (λ (x : ℕ). Bad x f.at) e ∙ sym (ap (λ (b : Bool). pick b (body_step s h f) (Bad (fault_of s h f) f.at)) (ne_eqb (fault_of s h f) 0 (λ z. n (e ∙ z))))
+  pub step_bad : (k : Kind) → fault_of s h f ≡ Err k → Err k ≡ step_form s h f
+  unfolding step_form
+  step_bad k e = sym (ap (λ (r : Result (Unit {0}) Kind). if_fine r (body_step s h f)) e)
 
-  step_body : fault_of s h f ≡ 0 → body_step s h f ≡ step_form s h f
-  unfolding pick step_form
-  step_body z = sym (ap (λ (b : Bool). pick b (body_step s h f) (Bad (fault_of s h f) f.at)) (eq-eqb (fault_of s h f) 0 z))
+  step_body : fault_of s h f ≡ Ok tt → body_step s h f ≡ step_form s h f
+  unfolding step_form
+  step_body z = sym (ap (λ (r : Result (Unit {0}) Kind). if_fine r (body_step s h f)) z)
 
-  pub step_sit : fault_of s h f ≡ 0 → get_or s f.at 0 ≡ 0x22 → sit_step s h f ≡ step_form s h f
+  pub step_sit : fault_of s h f ≡ Ok tt → get_or s f.at 0 ≡ 0x22 → sit_step s h f ≡ step_form s h f
   unfolding pick body_step
   step_sit z k = simp (eq-eqb _ 0x22 k) at (step_body z)
 
-  pub step_row : fault_of s h f ≡ 0 → get_or s f.at 0 ≡ 0x23 → row_step s h f ≡ step_form s h f
+  pub step_row : fault_of s h f ≡ Ok tt → get_or s f.at 0 ≡ 0x23 → row_step s h f ≡ step_form s h f
   unfolding pick body_step
   step_row z k = simp (ne_eqb (get_or s f.at 0) 0x22 (λ n. omega arith), eq-eqb _ 0x23 k) at (step_body z)
 
-  pub step_move : fault_of s h f ≡ 0 → get_or s f.at 0 ≡ 0x24 → move_step s h f ≡ step_form s h f
+  pub step_move : fault_of s h f ≡ Ok tt → get_or s f.at 0 ≡ 0x24 → move_step s h f ≡ step_form s h f
   unfolding pick body_step
   step_move z k = simp (ne_eqb (get_or s f.at 0) 0x22 (λ n. omega arith), ne_eqb (get_or s f.at 0) 0x23 (λ n. omega arith), eq-eqb _ 0x24 k) at (step_body z)
 
-  pub step_set : fault_of s h f ≡ 0 → (get_or s f.at 0 ≡ 0x22 → ⊥) → (get_or s f.at 0 ≡ 0x23 → ⊥) → (get_or s f.at 0 ≡ 0x24 → ⊥) → set_step s h f ≡ step_form s h f
+  pub step_set : fault_of s h f ≡ Ok tt → (get_or s f.at 0 ≡ 0x22 → ⊥) → (get_or s f.at 0 ≡ 0x23 → ⊥) → (get_or s f.at 0 ≡ 0x24 → ⊥) → set_step s h f ≡ step_form s h f
   unfolding pick body_step
   step_set z a b c = simp (ne_eqb (get_or s f.at 0) 0x22 a, ne_eqb (get_or s f.at 0) 0x23 b, ne_eqb (get_or s f.at 0) 0x24 c) at (step_body z)

@@ -1,18 +1,20 @@
 -- Laws of the eight fields of a SITUATION, as the form pass tests them. Assumes nothing.
-use Prim.Native.Nat.{ℕ, zero, suc, ◌+◌, ◌-◌, ◌<◌, ◌≤◌}
+use Prim.Native.Nat.{ℕ, zero, suc, ◌+◌, ◌<◌, ◌≤◌}
 use native.Mathlib.Omega.{arith}
 use native.Mathlib.Nat.{eq-or-lt_of_le}
-use mathlib.Core.Path.{◌≡◌, refl, sym, ap, ◌∙◌, subst}
+use mathlib.Core.Path.{◌≡◌, refl, sym, ap, ◌∙◌}
 use mathlib.Core.Logic.{inl, inr, ⊎_elim}
-use mathlib.Core.Bool.{Bool, true, false}
+use mathlib.Core.Bool.{Bool, true, false, ◌&&◌}
 use mathlib.Core.List.{List}
 use lib.ListN.{get_or}
 use lib.Dec.{leb, eqb}
 use borrow.Author.Tests.{ne_eqb, eqb-true, eqb-false, leb-true, leb-false, lt-leb, lt-ltb, ltb-true}
+use Rattle.std.specs.List.{list_all, range_with_len}
 use Rattle.ground.specs.Pick.{pick}
 use Rattle.card.specs.Table.{Field}
 use Rattle.card.specs.Form.{field_ok, fields_ok}
 use Rattle.ground.proofs.Picks.{by_test}
+use Rattle.ground.proofs.Tests.{both_yes}
 
 module _ (x t answer tags regs : ℕ) where
   Right : Bool → Type 0
@@ -49,49 +51,26 @@ module _ (x t answer tags regs : ℕ) where
   pub field_made : Field tags regs answer t x → field_ok x t answer tags regs ≡ true
   field_made f = by_255 (eqb x 255) refl f
 
+-- ---- a test of all numbers from a on
+
+module _ (p : ℕ → Bool) where
+  all_told : (n a : ℕ) → list_all p (range_with_len a n) ≡ true → (k : ℕ) → a ≤ k → k < a + n → p k ≡ true
+  all_told zero a e k g l = absurd (omega arith)
+  all_told (suc n) a e k g l =
+      let b = both_yes (p a) _ e in
+      ⊎_elim (λ (h : a ≡ k). sym (ap p h) ∙ b.0) (λ (h : a < k). all_told n (a + 1) b.1 k (omega arith) (omega arith)) (eq-or-lt_of_le g)
+
+  all_made : (n a : ℕ) → ((k : ℕ) → a ≤ k → k < a + n → p k ≡ true) → list_all p (range_with_len a n) ≡ true
+  all_made zero a f = refl
+  all_made (suc n) a f = ap (λ (b : Bool). b && list_all p (range_with_len (a + 1) n)) (f a (omega arith) (omega arith)) ∙ all_made n (a + 1) (λ k g l. f k (omega arith) (omega arith))
+
 module _ (s : List ℕ) (at answer tags regs : ℕ) where
-  -- the first k fields
-  fields_down : (k : ℕ) → 0 < k → (b : Bool) → field_ok (get_or s (at + (k - 1)) 0) (k - 1) answer tags regs ≡ b
-      → fields_ok k s at answer tags regs ≡ pick b (fields_ok (k - 1) s at answer tags regs) false
+  pub fields_told : fields_ok s at answer tags regs ≡ true → (t : ℕ) → t < 8 → Field tags regs answer t (get_or s (at + t) 0)
   unfolding fields_ok
-  fields_down k h b e =
-      let d : k ≡ suc (k - 1) = omega arith in
-      ap (λ (n : ℕ). fields_ok n s at answer tags regs) d ∙ ap (λ (x : Bool). pick x (fields_ok (k - 1) s at answer tags regs) false) e
+  fields_told e t l =
+      field_told (get_or s (at + t) 0) t answer tags regs
+      (all_told (λ t. field_ok (get_or s (at + t) 0) t answer tags regs) 8 0 e t (omega arith) (omega arith))
 
-  pub fields_more : (k : ℕ) → 0 < k → field_ok (get_or s (at + (k - 1)) 0) (k - 1) answer tags regs ≡ true
-      → fields_ok (k - 1) s at answer tags regs ≡ fields_ok k s at answer tags regs
-  unfolding pick
-  fields_more k h e = sym (fields_down k h true e)
-
-  pub fields_bad : (k : ℕ) → 0 < k → field_ok (get_or s (at + (k - 1)) 0) (k - 1) answer tags regs ≡ false → false ≡ fields_ok k s at answer tags regs
-  unfolding pick
-  fields_bad k h e = sym (fields_down k h false e)
-
-  pub fields_none : (k : ℕ) → k ≤ 0 → true ≡ fields_ok k s at answer tags regs
+  pub fields_made : ((t : ℕ) → t < 8 → Field tags regs answer t (get_or s (at + t) 0)) → fields_ok s at answer tags regs ≡ true
   unfolding fields_ok
-  fields_none k h = let z : k ≡ 0 = omega arith in sym (ap (λ (n : ℕ). fields_ok n s at answer tags regs) z)
-
-  AllRight : ℕ → Bool → Type 0
-  AllRight k b = b ≡ true → (t : ℕ) → t < k → Field tags regs answer t (get_or s (at + t) 0)
-
-  last_or_before : (k t : ℕ) → t < suc k → Field tags regs answer k (get_or s (at + k) 0) → (t < k → Field tags regs answer t (get_or s (at + t) 0)) → Field tags regs answer t (get_or s (at + t) 0)
-  last_or_before k t l a f =
-      ⊎_elim
-      (λ (e : t ≡ k). subst (λ (n : ℕ). Field tags regs answer n (get_or s (at + n) 0)) (sym e) a)
-      f
-      (eq-or-lt_of_le (let m : t ≤ k = omega arith in m))
-
-  pub fields_told : (k : ℕ) → fields_ok k s at answer tags regs ≡ true → (t : ℕ) → t < k → Field tags regs answer t (get_or s (at + t) 0)
-  unfolding fields_ok AllRight
-  fields_told zero = λ e t l. absurd (omega arith)
-  fields_told (suc k) =
-      by_test (AllRight (suc k)) _ _ _
-      (λ a e t l. last_or_before k t l (field_told (get_or s (at + k) 0) k answer tags regs a) (fields_told k e t))
-      (λ a z t l. absurd (let e : ◌≡◌ {A = ℕ} 0 1 = cc in omega arith))
-
-  pub fields_made : (k : ℕ) → ((t : ℕ) → t < k → Field tags regs answer t (get_or s (at + t) 0)) → fields_ok k s at answer tags regs ≡ true
-  unfolding pick fields_ok
-  fields_made zero f = refl
-  fields_made (suc k) f =
-      ap (λ (b : Bool). pick b (fields_ok k s at answer tags regs) false) (field_made (get_or s (at + k) 0) k answer tags regs (f k (omega arith)))
-      ∙ fields_made k (λ t l. f t (omega arith))
+  fields_made f = all_made (λ t. field_ok (get_or s (at + t) 0) t answer tags regs) 8 0 (λ t g l. field_made (get_or s (at + t) 0) t answer tags regs (f t (omega arith)))

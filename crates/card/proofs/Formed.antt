@@ -11,9 +11,10 @@ use Rattle.ground.specs.Pick.{pick}
 use Rattle.card.specs.Table.{Row, Table, cmd_bytes, row_bytes, sit_bytes, bytes_of, FormedSits, Formed}
 use Rattle.card.specs.Decode.{table_at}
 use Rattle.card.specs.declared.form.Head.{Head}
-use Rattle.card.specs.declared.form.HeadItem.{HeadItem}
-use Rattle.card.specs.declared.form.HeadItem.TheVariants.{Counts, Wrong}
-use Rattle.card.specs.declared.form.Verdict.TheVariants.{Fine, Fault}
+use Rattle.std.proofs.Common.{Result, Ok, Err, is_ok}
+use Rattle.card.specs.declared.form.Kind.{Kind}
+use Rattle.card.specs.declared.form.Kind.TheVariants.{Misplaced, Short, Field}
+use Rattle.card.specs.declared.form.Fault.{Fault}
 use Rattle.card.specs.Form.{head_at, begin, form_from, after_head, form_of}
 use Rattle.card.specs.FormOk.{FormOk}
 use Rattle.ground.proofs.Picks.{by_test}
@@ -36,24 +37,24 @@ pub record HeadIs (s : List ℕ) (h : Head) : Type 0 where
   pub most : h.sits ≤ 96
 
 module _ (s : List ℕ) where
-  HeadTold : HeadItem → Type 0
-  HeadTold (Counts h) = HeadIs s h
-  HeadTold (Wrong k) = Unit {0}
+  HeadTold : Result Head Kind → Type 0
+  HeadTold (Ok h) = HeadIs s h
+  HeadTold (Err k) = Unit {0}
 
-  wrong : (k : ℕ) → HeadTold (Wrong k)
+  wrong : (k : Kind) → HeadTold (Err k)
   unfolding HeadTold
   wrong k = tt
 
-  counts : (h : Head) → HeadIs s h → HeadTold (Counts h)
+  counts : (h : Head) → HeadIs s h → HeadTold (Ok h)
   unfolding HeadTold
   counts h i = i
 
   head_told : HeadTold (head_at s)
   unfolding head_at
   head_told =
-      by_test HeadTold _ _ _ (λ _. wrong 22) (λ _. by_test HeadTold _ _ _ (λ k. by_test HeadTold _ _ _ (λ _. wrong 22) (λ l.
-      by_test HeadTold _ _ _ (λ e. by_test HeadTold _ _ _ (λ _. wrong 23) (λ a. by_test HeadTold _ _ _ (λ _. wrong 23) (λ b.
-      by_test HeadTold _ _ _ (λ _. wrong 23) (λ c. by_test HeadTold _ _ _ (λ _. wrong 23) (λ d.
+      by_test HeadTold _ _ _ (λ _. wrong Short) (λ _. by_test HeadTold _ _ _ (λ k. by_test HeadTold _ _ _ (λ _. wrong Short) (λ l.
+      by_test HeadTold _ _ _ (λ e. by_test HeadTold _ _ _ (λ _. wrong Field) (λ a. by_test HeadTold _ _ _ (λ _. wrong Field) (λ b.
+      by_test HeadTold _ _ _ (λ _. wrong Field) (λ c. by_test HeadTold _ _ _ (λ _. wrong Field) (λ d.
       counts _ (record {
         fits = ltb-false _ _ l;
         kind = eqb-true _ _ k;
@@ -65,9 +66,9 @@ module _ (s : List ℕ) where
         regs = ltb-false _ _ b;
         some = ltb-false _ _ c;
         most = ltb-false _ _ d;
-      })))))) (λ _. wrong 23))) (λ _. wrong 21))
+      })))))) (λ _. wrong Field))) (λ _. wrong Misplaced))
 
-  head_is : (h : Head) → head_at s ≡ Counts h → HeadIs s h
+  head_is : (h : Head) → head_at s ≡ Ok h → HeadIs s h
   unfolding HeadTold
   head_is h e = subst HeadTold e head_told
 
@@ -107,11 +108,11 @@ module _ (s : List ℕ) where
             ∙ ap (λ (l : List Row). each cmd_bytes r.cmds ++ (each row_bytes l ++ each sit_bytes r.sits)) none);
       }
 
-  passed : ((i : ℕ) → get_or s i 0 < 256) → (x : HeadItem) → head_at s ≡ x → after_head x (λ (h : Head). form_from (length s) s h begin) ≡ Fine → Says s
-  passed small (Counts h) e k = said h (head_is s h e) (rest_of s h small (length s) begin (omega arith) (omega arith) k)
-  passed small (Wrong n) e k = absurd (let z : ◌≡◌ {A = ℕ} 0 1 = cc in omega arith)
+  passed : ((i : ℕ) → get_or s i 0 < 256) → (x : Result Head Kind) → head_at s ≡ x → after_head x (λ (h : Head). form_from (length s) s h begin) ≡ Ok tt → Says s
+  passed small (Ok h) e k = said h (head_is s h e) (rest_of s h small (length s) begin (omega arith) (omega arith) k)
+  passed small (Err n) e k = cc
 
-  pub fine_says : ((i : ℕ) → get_or s i 0 < 256) → form_of s ≡ Fine → Says s
+  pub fine_says : ((i : ℕ) → get_or s i 0 < 256) → form_of s ≡ Ok tt → Says s
   unfolding form_of
   fine_says small e = passed small (head_at s) refl e
 
@@ -120,7 +121,7 @@ module _ (s : List ℕ) where
 abbrev head_of : Table → Head
 head_of T = record { tags = T.tags; regs = T.registers; sits = length T.sits }
 
-head_made : (T : Table) → Formed T → head_at (bytes_of T) ≡ Counts (head_of T)
+head_made : (T : Table) → Formed T → head_at (bytes_of T) ≡ Ok (head_of T)
 unfolding pick head_at bytes_of
 head_made T f =
     simp (lt-leb (length (bytes_of T)) 0 (omega arith), le-ltb (length (bytes_of T)) 5 (omega arith), le-ltb 8 T.tags f.tags, le-ltb 64 T.registers f.registers, le-ltb (length T.sits) 1 f.some, le-ltb 96 (length T.sits) f.most)
@@ -141,16 +142,16 @@ rest_made T f =
       formed = f.sits;
     }
 
-pub formed_fine : (T : Table) → Formed T → form_of (bytes_of T) ≡ Fine
+pub formed_fine : (T : Table) → Formed T → form_of (bytes_of T) ≡ Ok tt
 unfolding form_of
 formed_fine T f =
     let s = bytes_of T in
-    ap (λ (x : HeadItem). after_head x (λ (h : Head). form_from (length s) s h begin)) (head_made T f)
+    ap (λ (x : Result Head Kind). after_head x (λ (h : Head). form_from (length s) s h begin)) (head_made T f)
     ∙ rest_fine s (head_of T) (length s) begin (omega arith) (begin_sane s (head_of T)) (rest_made T f)
 
 -- ---- the answer
 
-pub ok_right : (s : List ℕ) → ((i : ℕ) → get_or s i 0 < 256) → form_of s ≡ Fine → FormOk s true
+pub ok_right : (s : List ℕ) → ((i : ℕ) → get_or s i 0 < 256) → form_of s ≡ Ok tt → FormOk s true
 ok_right s small e =
     let t = fine_says s small e in
     let same = reads_as s t.table t.formed t.bytes in
@@ -159,21 +160,25 @@ ok_right s small e =
       wrong = λ z. absurd (let n : ◌≡◌ {A = ℕ} 0 1 = cc in omega arith);
     }
 
-pub ok_wrong : (s : List ℕ) (kind item : ℕ) → form_of s ≡ Fault kind item → FormOk s false
-ok_wrong s kind item e =
+pub ok_wrong : (s : List ℕ) (e : Fault) → form_of s ≡ Err e → FormOk s false
+ok_wrong s e is =
     record {
       right = λ z. absurd (let n : ◌≡◌ {A = ℕ} 0 1 = cc in omega arith);
-      wrong = λ _ T f b. let w = sym e ∙ ap form_of b ∙ formed_fine T f in let n : ◌≡◌ {A = ℕ} 0 1 = cc in omega arith;
+      wrong = λ _ T f b. let w = sym is ∙ ap form_of b ∙ formed_fine T f in cc;
     }
 
--- the verdict by the HEAD
-pub verdict_of : (s : List ℕ) (h : Head) → head_at s ≡ Counts h → form_from (length s) s h begin ≡ form_of s
-unfolding form_of
-verdict_of s h e = sym (ap (λ (x : HeadItem). after_head x (λ (g : Head). form_from (length s) s g begin)) e)
+pub answered : (s : List ℕ) → ((i : ℕ) → get_or s i 0 < 256) → (v : Result (Unit {0}) Fault) → v ≡ form_of s → FormOk s (is_ok v)
+answered s small (Ok u) e = ok_right s small (sym e)
+answered s small (Err f) e = ok_wrong s f (sym e)
 
-pub verdict_wrong : (s : List ℕ) (k : ℕ) → head_at s ≡ Wrong k → Fault k 0 ≡ form_of s
+-- the verdict by the HEAD
+pub verdict_of : (s : List ℕ) (h : Head) → head_at s ≡ Ok h → form_from (length s) s h begin ≡ form_of s
 unfolding form_of
-verdict_wrong s k e = sym (ap (λ (x : HeadItem). after_head x (λ (g : Head). form_from (length s) s g begin)) e)
+verdict_of s h e = sym (ap (λ (x : Result Head Kind). after_head x (λ (g : Head). form_from (length s) s g begin)) e)
+
+pub verdict_wrong : (s : List ℕ) (k : Kind) → head_at s ≡ Err k → Err (record { kind = k; at = 0 }) ≡ form_of s
+unfolding form_of
+verdict_wrong s k e = sym (ap (λ (x : Result Head Kind). after_head x (λ (g : Head). form_from (length s) s g begin)) e)
 
 -- one answer alone meets the promise
 pub form_ok_one : (s : List ℕ) (a b : Bool) → FormOk s a → FormOk s b → a ≡ b

@@ -1,7 +1,7 @@
 -- What an item that the form pass goes past has said, and that such an item is gone past. Assumes nothing.
 use Prim.Native.Nat.{ℕ, ◌+◌, ◌-◌, ◌<◌, ◌≤◌}
 use native.Mathlib.Omega.{arith}
-use mathlib.Core.Path.{◌≡◌, sym, ap, ◌∙◌, subst}
+use mathlib.Core.Path.{◌≡◌, refl, sym, ap, ◌∙◌, subst}
 use mathlib.Core.Bool.{false}
 use mathlib.Core.List.{List}
 use lib.ListN.{length, get_or}
@@ -11,9 +11,11 @@ use Rattle.ground.specs.Pick.{pick}
 use Rattle.card.specs.Table.{Field}
 use Rattle.card.specs.declared.form.Head.{Head}
 use Rattle.card.specs.declared.form.Cursor.{Cursor}
-use Rattle.card.specs.declared.form.Went.{Went}
-use Rattle.card.specs.declared.form.Went.TheVariants.{On, Bad}
-use Rattle.card.specs.Form.{kind_fault, sit_step, row_step, move_step, set_step, body_step, step_form}
+use Rattle.std.proofs.Common.{Result, Ok, Err}
+use Rattle.card.specs.declared.form.Kind.{Kind}
+use Rattle.card.specs.declared.form.Kind.TheVariants.{Short, Rows}
+use Rattle.card.specs.declared.form.Kind.TheVariants as kinds
+use Rattle.card.specs.Form.{kind_fault, fault_of, if_fine, sit_step, row_step, move_step, set_step, body_step, step_form}
 use Rattle.ground.proofs.Picks.{by_test}
 use Rattle.card.proofs.Fields.{fields_told, fields_made}
 use Rattle.card.proofs.Allowed.{Allowed, kind_told, kind_move, kind_set, kind_row, kind_sit, step_sit, step_row, step_move, step_set}
@@ -73,15 +75,15 @@ pub data Past (s : List ℕ) (h : Head) (f : Cursor) : Cursor → Type 0 where
 -- ---- what is gone past
 
 module _ (s : List ℕ) (h : Head) (f : Cursor) where
-  Told : Went → Type 0
-  Told (On g) = Past s h f g
-  Told (Bad kind item) = Unit {0}
+  Told : Result Cursor Kind → Type 0
+  Told (Ok g) = Past s h f g
+  Told (Err kind) = Unit {0}
 
-  bad : (kind item : ℕ) → Told (Bad kind item)
+  bad : (kind : Kind) → Told (Err kind)
   unfolding Told
-  bad kind item = tt
+  bad kind = tt
 
-  on : (g : Cursor) → Past s h f g → Told (On g)
+  on : (g : Cursor) → Past s h f g → Told (Ok g)
   unfolding Told
   on g p = p
 
@@ -89,19 +91,19 @@ module _ (s : List ℕ) (h : Head) (f : Cursor) where
     sit_told : get_or s f.at 0 ≡ 0x22 → Told (sit_step s h f)
     unfolding sit_step
     sit_told k =
-        by_test Told _ _ _ (λ _. bad 22 f.at) (λ l. by_test Told _ _ _ (λ e.
+        by_test Told _ _ _ (λ _. bad Short) (λ l. by_test Told _ _ _ (λ e.
         on _ (sat (record {
           kind = k;
           fits = let m = ltb-false (length s - f.at) 10 l in omega arith;
           closed = (a.sit k).0;
           more = (a.sit k).1;
-          fields = fields_told s (f.at + 2) (get_or s (f.at + 1) 0) h.tags h.regs 8 e;
-        }))) (λ _. bad 23 f.at))
+          fields = fields_told s (f.at + 2) (get_or s (f.at + 1) 0) h.tags h.regs e;
+        }))) (λ _. bad kinds.Field))
 
     row_told : get_or s f.at 0 ≡ 0x23 → Told (row_step s h f)
     unfolding row_step
     row_told k =
-        by_test Told _ _ _ (λ _. bad 22 f.at) (λ l. by_test Told _ _ _ (λ _. bad 23 f.at) (λ u. by_test Told _ _ _ (λ _. bad 23 f.at) (λ n.
+        by_test Told _ _ _ (λ _. bad Short) (λ l. by_test Told _ _ _ (λ _. bad kinds.Field) (λ u. by_test Told _ _ _ (λ _. bad kinds.Field) (λ n.
         by_test Told _ _ _ (λ j.
         on _ (rowed (record {
           kind = k;
@@ -111,13 +113,13 @@ module _ (s : List ℕ) (h : Head) (f : Cursor) where
           up = ltb-false _ _ u;
           leads = leb-false _ _ n;
           joins = eqb-true _ _ j;
-        }))) (λ _. bad 24 f.at))))
+        }))) (λ _. bad Rows))))
 
     move_told : get_or s f.at 0 ≡ 0x24 → Told (move_step s h f)
     unfolding move_step
     move_told k =
-        by_test Told _ _ _ (λ _. bad 22 f.at) (λ l. by_test Told _ _ _ (λ _. bad 23 f.at) (λ r. by_test Told _ _ _ (λ _. bad 23 f.at) (λ t.
-        by_test Told _ _ _ (λ _. bad 23 f.at) (λ m.
+        by_test Told _ _ _ (λ _. bad Short) (λ l. by_test Told _ _ _ (λ _. bad kinds.Field) (λ r. by_test Told _ _ _ (λ _. bad kinds.Field) (λ t.
+        by_test Told _ _ _ (λ _. bad kinds.Field) (λ m.
         on _ (moved (record {
           kind = k;
           fits = let m = ltb-false (length s - f.at) 3 l in omega arith;
@@ -131,7 +133,7 @@ module _ (s : List ℕ) (h : Head) (f : Cursor) where
     set_told : get_or s f.at 0 ≡ 0x25 → Told (set_step s h f)
     unfolding set_step
     set_told k =
-        by_test Told _ _ _ (λ _. bad 22 f.at) (λ l. by_test Told _ _ _ (λ _. bad 23 f.at) (λ r. by_test Told _ _ _ (λ _. bad 23 f.at) (λ t.
+        by_test Told _ _ _ (λ _. bad Short) (λ l. by_test Told _ _ _ (λ _. bad kinds.Field) (λ r. by_test Told _ _ _ (λ _. bad kinds.Field) (λ t.
         on _ (put (record {
           kind = k;
           fits = let m = ltb-false (length s - f.at) 2 l in omega arith;
@@ -155,40 +157,44 @@ module _ (s : List ℕ) (h : Head) (f : Cursor) where
 
   step_told : Told (step_form s h f)
   unfolding step_form
-  step_told = by_test Told _ _ _ (λ z. body_told (kind_told _ _ _ _ (eqb-true _ _ z))) (λ _. bad _ f.at)
+  step_told = by (fault_of s h f) refl
+    where
+      by : (r : Result (Unit {0}) Kind) → fault_of s h f ≡ r → Told (if_fine r (body_step s h f))
+      by (Ok u) e = body_told (kind_told _ _ _ _ e)
+      by (Err k) e = bad k
 
-  pub past_of : (g : Cursor) → step_form s h f ≡ On g → Past s h f g
+  pub past_of : (g : Cursor) → step_form s h f ≡ Ok g → Past s h f g
   unfolding Told
   past_of g e = subst Told e step_told
 
   -- ---- and the other way
 
-  sit_made : SitHere s h f → step_form s h f ≡ On (sit_past f)
+  sit_made : SitHere s h f → step_form s h f ≡ Ok (sit_past f)
   unfolding pick sit_step
   sit_made i =
       sym (step_sit s h f (ap (λ (k : ℕ). kind_fault k f.begun f.lo h.sits) i.kind ∙ kind_sit f.begun f.lo h.sits i.closed i.more) i.kind)
-      ∙ simp (le-ltb (length s - f.at) 10 (omega (arith, i.fits)), fields_made s (f.at + 2) (get_or s (f.at + 1) 0) h.tags h.regs 8 i.fields)
+      ∙ simp (le-ltb (length s - f.at) 10 (omega (arith, i.fits)), fields_made s (f.at + 2) (get_or s (f.at + 1) 0) h.tags h.regs i.fields)
 
-  row_made : RowHere s h f → step_form s h f ≡ On (row_past s f)
+  row_made : RowHere s h f → step_form s h f ≡ Ok (row_past s f)
   unfolding pick row_step
   row_made i =
       sym (step_row s h f (ap (λ (k : ℕ). kind_fault k f.begun f.lo h.sits) i.kind ∙ kind_row f.begun f.lo h.sits i.begun i.unclosed) i.kind)
       ∙ simp (le-ltb (length s - f.at) 4 (omega (arith, i.fits)), le-ltb _ _ i.up, lt-leb _ _ i.leads, eq-eqb _ _ i.joins)
 
-  move_made : MoveHere s h f → step_form s h f ≡ On (move_past s f)
+  move_made : MoveHere s h f → step_form s h f ≡ Ok (move_past s f)
   unfolding pick move_step
   move_made i =
       sym (step_move s h f (ap (λ (k : ℕ). kind_fault k f.begun f.lo h.sits) i.kind ∙ kind_move f.begun f.lo h.sits i.begun i.after) i.kind)
       ∙ simp (le-ltb (length s - f.at) 3 (omega (arith, i.fits)), le-ltb _ _ i.rises, lt-leb _ _ i.to, lt-leb _ _ i.from)
 
-  set_made : SetHere s h f → step_form s h f ≡ On (set_past s f)
+  set_made : SetHere s h f → step_form s h f ≡ Ok (set_past s f)
   unfolding pick set_step
   set_made i =
       sym (step_set s h f (ap (λ (k : ℕ). kind_fault k f.begun f.lo h.sits) i.kind ∙ kind_set f.begun f.lo h.sits i.after)
       (λ n. omega (arith, i.kind)) (λ n. omega (arith, i.kind)) (λ n. omega (arith, i.kind)))
       ∙ simp (le-ltb (length s - f.at) 2 (omega (arith, i.fits)), le-ltb _ _ i.rises, lt-leb _ _ i.to)
 
-  pub step_past : (g : Cursor) → Past s h f g → step_form s h f ≡ On g
+  pub step_past : (g : Cursor) → Past s h f g → step_form s h f ≡ Ok g
   step_past _ (sat i) = sit_made i
   step_past _ (rowed i) = row_made i
   step_past _ (moved i) = move_made i

@@ -15,9 +15,10 @@ use Rattle.ground.specs.Pick.{pick}
 use Rattle.card.specs.Table.{Cmd, move, put, Row, Sit, cmd_bytes, row_bytes, sit_bytes, Rising, Sets, Upward, Field, FormedSits}
 use Rattle.card.specs.declared.form.Head.{Head}
 use Rattle.card.specs.declared.form.Cursor.{Cursor}
-use Rattle.card.specs.declared.form.Went.{Went}
-use Rattle.card.specs.declared.form.Went.TheVariants.{On, Bad}
-use Rattle.card.specs.declared.form.Verdict.TheVariants.{Fine, Fault}
+use Rattle.std.proofs.Common.{Result, Ok, Err}
+use Rattle.card.specs.declared.form.Kind.{Kind}
+use Rattle.card.specs.declared.form.Kind.TheVariants.{Short}
+use Rattle.card.specs.declared.form.Fault.{Fault}
 use Rattle.card.specs.Form.{step_form, begin, whole, end_form, onward, form_from}
 use Rattle.ground.proofs.Tests.{lt_or_le}
 use Rattle.ground.proofs.Lists.{two_there, three_there, four_there, first_here, byte_here, left_here, later_here}
@@ -156,15 +157,15 @@ module _ (s : List ℕ) (h : Head) (f : Cursor) (small : (i : ℕ) → get_or s 
 -- ---- a file that passes
 
 module _ (s : List ℕ) (h : Head) (small : (i : ℕ) → get_or s i 0 < 256) where
-  end_told : (b : Bool) (k at : ℕ) → pick b Fine (Fault k at) ≡ Fine → b ≡ true
+  end_told : (b : Bool) (e : Fault) → ◌≡◌ {A = Result (Unit {0}) Fault} (pick b (Ok tt) (Err e)) (Ok tt) → b ≡ true
   unfolding pick
-  end_told true k at e = refl
-  end_told false k at e = absurd (let z : ◌≡◌ {A = ℕ} 0 1 = cc in omega arith)
+  end_told true e z = refl
+  end_told false e z = cc
 
-  rest_end : (f : Cursor) → length s ≤ f.at → f.begun ≤ h.sits → end_form h f ≡ Fine → Rest h f (drop f.at s)
+  rest_end : (f : Cursor) → length s ≤ f.at → f.begun ≤ h.sits → end_form h f ≡ Ok tt → Rest h f (drop f.at s)
   unfolding end_form
   rest_end f l b e =
-      let w = whole_told f.begun f.lo h.sits (end_told (whole f.begun f.lo h.sits) 22 f.at e) in
+      let w = whole_told f.begun f.lo h.sits (end_told (whole f.begun f.lo h.sits) _ e) in
       record {
         cmds = [];
         rows = [];
@@ -178,10 +179,10 @@ module _ (s : List ℕ) (h : Head) (small : (i : ℕ) → get_or s i 0 < 256) wh
         formed = tt;
       }
 
-  rest_item : (n : ℕ) (f : Cursor) (w : Went) → step_form s h f ≡ w → onward w (form_from n s h) ≡ Fine
-      → ((g : Cursor) → Past s h f g → form_from n s h g ≡ Fine → Rest h g (drop g.at s)) → Rest h f (drop f.at s)
-  rest_item n f (On g) e k more = let p = past_of s h f g e in item_back s h f small g p (more g p k)
-  rest_item n f (Bad kind item) e k more = absurd (let z : ◌≡◌ {A = ℕ} 0 1 = cc in omega arith)
+  rest_item : (n : ℕ) (f : Cursor) (w : Result Cursor Kind) → step_form s h f ≡ w → onward f.at w (form_from n s h) ≡ Ok tt
+      → ((g : Cursor) → Past s h f g → form_from n s h g ≡ Ok tt → Rest h g (drop g.at s)) → Rest h f (drop f.at s)
+  rest_item n f (Ok g) e k more = let p = past_of s h f g e in item_back s h f small g p (more g p k)
+  rest_item n f (Err kind) e k more = cc
 
   past_begun : (f g : Cursor) → Past s h f g → f.begun ≤ h.sits → g.begun ≤ h.sits
   past_begun f _ (items.sat i) b = omega (arith, i.more)
@@ -189,7 +190,7 @@ module _ (s : List ℕ) (h : Head) (small : (i : ℕ) → get_or s i 0 < 256) wh
   past_begun f _ (items.moved i) b = b
   past_begun f _ (items.put i) b = b
 
-  pub rest_of : (n : ℕ) (f : Cursor) → length s ≤ f.at + n → f.begun ≤ h.sits → form_from n s h f ≡ Fine → Rest h f (drop f.at s)
+  pub rest_of : (n : ℕ) (f : Cursor) → length s ≤ f.at + n → f.begun ≤ h.sits → form_from n s h f ≡ Ok tt → Rest h f (drop f.at s)
   rest_of zero f l b e = rest_end f (omega arith) b (sym (from_end s h 0 f (omega arith)) ∙ e)
   rest_of (suc n) f l b e =
       ⊎_elim
@@ -327,19 +328,19 @@ module _ (s : List ℕ) (h : Head) where
   past_sane f _ sane (items.moved i) = λ z. absurd (omega (arith, i.begun))
   past_sane f _ sane (items.put i) = sane
 
-  fine_end : (f : Cursor) → whole f.begun f.lo h.sits ≡ true → end_form h f ≡ Fine
+  fine_end : (f : Cursor) → whole f.begun f.lo h.sits ≡ true → end_form h f ≡ Ok tt
   unfolding pick end_form
-  fine_end f w = ap (λ (b : Bool). pick b Fine (Fault 22 f.at)) w
+  fine_end f w = ap (λ (b : Bool). pick b (Ok tt) (Err (record { kind = Short; at = f.at }))) w
 
-  fine_none : (f : Cursor) → length s ≤ f.at + 0 → Ahead f → form_from 0 s h f ≡ Fine
+  fine_none : (f : Cursor) → length s ≤ f.at + 0 → Ahead f → form_from 0 s h f ≡ Ok tt
   fine_none f l (end a w) = from_end s h 0 f a ∙ fine_end f w
   fine_none f l (item g p r) = absurd (let m = past_on s h f g p in omega arith)
 
-  fine_ahead : (n : ℕ) (f : Cursor) → Ahead f → ((g : Cursor) → Past s h f g → Rest h g (drop g.at s) → form_from n s h g ≡ Fine) → form_from (suc n) s h f ≡ Fine
+  fine_ahead : (n : ℕ) (f : Cursor) → Ahead f → ((g : Cursor) → Past s h f g → Rest h g (drop g.at s) → form_from n s h g ≡ Ok tt) → form_from (suc n) s h f ≡ Ok tt
   fine_ahead n f (end a w) more = from_end s h (suc n) f a ∙ fine_end f w
-  fine_ahead n f (item g p r) more = let m = past_on s h f g p in from_item s h n f (On g) (omega arith) (step_past s h f g p) ∙ more g p r
+  fine_ahead n f (item g p r) more = let m = past_on s h f g p in from_item s h n f (Ok g) (omega arith) (step_past s h f g p) ∙ more g p r
 
-  pub rest_fine : (n : ℕ) (f : Cursor) → length s ≤ f.at + n → Sane f → Rest h f (drop f.at s) → form_from n s h f ≡ Fine
+  pub rest_fine : (n : ℕ) (f : Cursor) → length s ≤ f.at + n → Sane f → Rest h f (drop f.at s) → form_from n s h f ≡ Ok tt
   rest_fine zero f l sane r = fine_none f l (rest_ahead f sane r)
   rest_fine (suc n) f l sane r =
       fine_ahead n f (rest_ahead f sane r) (λ g p t. let o = past_on s h f g p in rest_fine n g (omega arith) (past_sane f g sane p) t)

@@ -3,8 +3,8 @@ use Prim.Native.Nat.{ℕ, zero, suc, ◌+◌, ◌*◌, ◌<◌, ◌≤◌, min}
 use native.Mathlib.Omega.{arith}
 use native.Mathlib.Numerals.{add-one}
 use mathlib.Core.Path.{◌≡◌, refl, sym, ap, ◌∙◌}
-use mathlib.Core.List.{List, [], ◌∷◌, ◌++◌}
-use lib.ListN.{length, get_or, drop, set, length-set, get_or-append}
+use mathlib.Core.List.{List, [], ◌∷◌, ◌++◌, append-nil}
+use lib.ListN.{length, get_or, take, drop, set, get_or-append, length-take, drop_of_length-le}
 use lib.Seq.{drop-cons, set_at}
 use Rattle.card.specs.Table.{Sit}
 use Rattle.card.specs.Run.{sit, no_sit}
@@ -138,46 +138,38 @@ noted_at old s q l m =
 
 -- ---- the array while it is filled: the first k places stand in it, and p is the next
 
-pub record Noting (s old : List ℕ) (count : ℕ) (cur : List ℕ) (p k : ℕ) : Type 0 where
+pub record Noting (s old cur : List ℕ) (p k : ℕ) : Type 0 where
   pub is : cur ≡ places_from k s (after_at s 5) ++ drop k old
   pub place : p ≡ place_after s k (after_at s 5)
   pub most : p ≤ length s + 5 + 10 * k
-  pub upto : k ≤ count
-  pub room : k ≤ length old
-  pub all : count ≡ get_or s 4 0
-  pub long : length cur ≡ length old
 
-module _ {s old : List ℕ} {count : ℕ} where
-  pub noting_begins : (p : ℕ) → p ≡ after_at s 5 → count ≡ get_or s 4 0 → Noting s old count old p 0
+module _ {s old : List ℕ} where
+  pub noting_begins : (p : ℕ) → p ≡ after_at s 5 → Noting s old old p 0
   unfolding places_from
-  noting_begins p e all =
+  noting_begins p e =
       record {
         is = refl;
         place = e ∙ sym (place_first s (after_at s 5));
         most = let m = after_most s (length s + 5) (omega arith) 5 (omega arith) in omega arith;
-        upto = omega arith;
-        room = omega arith;
-        all = all;
-        long = refl;
       }
 
-  module _ {cur : List ℕ} {p k : ℕ} (f : Noting s old count cur p k) where
-    pub noting_on : k < count → k < length old → (q : ℕ) → q ≡ after_rows s (p + 10) → Noting s old count (set cur k p) q (k + 1)
-    noting_on l m q e =
+  module _ {cur : List ℕ} {p k : ℕ} (f : Noting s old cur p k) where
+    pub noting_on : k < length old → (q : ℕ) → q ≡ after_rows s (p + 10) → Noting s old (set cur k p) q (k + 1)
+    noting_on m q e =
         record {
           is = ap (λ (c : List ℕ). set c k p) f.is ∙ ap (set (places_from k s (after_at s 5) ++ drop k old) k) f.place ∙ note s old (after_at s 5) k m;
           place =
               e ∙ ap (λ (x : ℕ). after_rows s (x + 10)) f.place ∙ sym (place_later s k (after_at s 5))
               ∙ ap (λ (m : ℕ). place_after s m (after_at s 5)) (sym (add-one k));
           most = let m = after_rows_most s (length s + 5 + 10 * (k + 1)) (omega arith) (p + 10) (omega (arith, f.most)) in omega arith;
-          upto = omega arith;
-          room = omega arith;
-          all = f.all;
-          long = length-set cur k p ∙ f.long;
         }
 
-    pub noting_ends : min (length old) count ≤ k → cur ≡ noted old s
-    unfolding noted
-    noting_ends l =
-        f.is ∙ ap (λ (m : ℕ). places_from m s (after_at s 5) ++ drop m old)
-        (let e : k ≡ min (length old) (get_or s 4 0) = omega (arith, f.upto, f.room, f.all) in e)
+-- the front of an array is filled, and what lies past it stayed
+pub noting_ends : {s cur : List ℕ} {p k : ℕ} (all : List ℕ) (n : ℕ) → Noting s (take n all) cur p k → length (take n all) ≤ k → k ≤ length (take n all)
+    → n ≡ min (length all) (get_or s 4 0) → cur ++ drop n all ≡ noted all s
+unfolding noted
+noting_ends {s} {cur} {p} {k} all n f l m e =
+    let h : k ≡ n = omega (arith, length-take n all) in
+    ap (λ (c : List ℕ). c ++ drop n all) (f.is ∙ ap (λ (r : List ℕ). places_from k s (after_at s 5) ++ r) (drop_of_length-le (take n all) l) ∙ append-nil _)
+    ∙ ap (λ (m : ℕ). places_from m s (after_at s 5) ++ drop n all) h
+    ∙ ap (λ (m : ℕ). places_from m s (after_at s 5) ++ drop m all) e

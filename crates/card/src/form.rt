@@ -1,377 +1,258 @@
 // The form of a table file: one pass over its items, with a cursor by value. The pass knows the kind of the first fault
 // and the offset of its item. Within an item the order is: no kind byte, a kind not allowed there, a cut body, a field
 // out of range, a gap or overlap of rows.
-ghost use Rattle.std.specs.Prelude.{◌≡◌, ◌+◌, ◌<◌, ◌≤◌, length, get_or};
+ghost use Rattle.std.specs.Prelude.{◌≡◌, ◌+◌, ◌<◌, ◌≤◌, length};
 ghost use Rattle.card.specs.Form.{head_at, field_ok, fields_ok, kind_fault, sit_step, row_step, move_step, set_step, whole, step_form, end_form, begin, form_from, form_of};
 ghost use Rattle.card.specs.FormOk.{FormOk};
 
+use crate::{HEAD, MOVE, ROW, SET, SITUATION};
+
+// What is wrong with an item: it may not stand there, is cut, has a field out of range, leaves a gap or an overlap of
+// rows, or comes after the whole.
+#[derive(Clone, Copy, PartialEq, Eq)]
+pub enum Kind {
+    Misplaced,
+    Short,
+    Field,
+    Rows,
+    Extra,
+}
+
+// The first fault: its kind and the offset of its item.
+#[derive(Clone, Copy, PartialEq, Eq)]
+pub struct Fault {
+    pub kind: Kind,
+    pub at: usize,
+}
+
 // What the HEAD says.
 #[derive(Clone, Copy)]
-pub struct Head {
-    pub tags: usize,
-    pub regs: usize,
-    pub sits: usize,
+struct Head {
+    tags: usize,
+    regs: usize,
+    sits: usize,
 }
 
+// Where a pass stands: the place; how many situations have begun; how many bytes the rows of the last one cover, which is
+// the byte that its next row starts with; and the least target that the next command may have.
 #[derive(Clone, Copy)]
-pub enum HeadItem {
-    Counts(Head),
-    Wrong(u8),
+struct Cursor {
+    at: usize,
+    begun: usize,
+    lo: usize,
+    low: usize,
 }
 
-// Where a pass stands: the place; how many situations have begun; the byte that the next row starts with, 256 after the
-// last; and the least target that the next command may have.
-#[derive(Clone, Copy)]
-pub struct Cursor {
-    pub at: usize,
-    pub begun: usize,
-    pub lo: usize,
-    pub low: usize,
-}
+const EDITION: u8 = 1;
 
-// An item takes the cursor on, or has a fault: its kind and the item's offset.
-#[derive(Clone, Copy)]
-pub enum Went {
-    On(Cursor),
-    Bad(u8, usize),
-}
+// A field that is absent, and the answer of a situation that has none.
+const NONE: u8 = 255;
 
-#[derive(Clone, Copy)]
-pub enum Verdict {
-    Fine,
-    Fault(u8, usize),
-}
+// What the rows of a situation cover when they are whole.
+const ALL: usize = 256;
 
-const KIND: u8 = 21;
-
-const SHORT: u8 = 22;
-
-const FIELD: u8 = 23;
-
-const ROWS: u8 = 24;
-
-const EXTRA: u8 = 25;
-
-fn read_head(s: &[u8]) -> HeadItem
+#[tactic(auto, using(std::proofs::lemmas::Bool::Decides::nat_tests), unfolding(ground::specs::Pick::pick, crate::specs::Form::head_at))]
+fn read_head(s: &[u8]) -> Result<Head, Kind>
     ensures { result ≡ head_at s.now }
 {
-    if s.len() <= 0 {
-        return HeadItem::Wrong(SHORT);
+    match s {
+        [HEAD, EDITION, tags @ ..=8, regs @ ..=64, sits @ 1..=96, ..] => Ok(Head {
+            tags: usize::from(*tags),
+            regs: usize::from(*regs),
+            sits: usize::from(*sits),
+        }),
+        [HEAD, _, _, _, _, ..] => Err(Kind::Field),
+        [] | [HEAD, ..] => Err(Kind::Short),
+        _ => Err(Kind::Misplaced),
     }
-    let kind = s[0];
-    if kind != 0x21 {
-        return HeadItem::Wrong(KIND);
-    }
-    if s.len() < 5 {
-        return HeadItem::Wrong(SHORT);
-    }
-    let edition = s[1];
-    let tags = s[2] as usize;
-    let regs = s[3] as usize;
-    let sits = s[4] as usize;
-    if edition != 1 {
-        return HeadItem::Wrong(FIELD);
-    }
-    if 8 < tags {
-        return HeadItem::Wrong(FIELD);
-    }
-    if 64 < regs {
-        return HeadItem::Wrong(FIELD);
-    }
-    if sits < 1 {
-        return HeadItem::Wrong(FIELD);
-    }
-    if 96 < sits {
-        return HeadItem::Wrong(FIELD);
-    }
-    HeadItem::Counts(Head { tags, regs, sits })
 }
 
 // Whether one of the eight fields of a situation is right.
-fn field_ok(x: usize, t: usize, answer: usize, tags: usize, regs: usize) -> bool
-    ensures { result ≡ field_ok x t answer tags regs }
+#[tactic(auto, using(std::proofs::lemmas::Bool::Decides::nat_tests), unfolding(ground::specs::Pick::pick, crate::specs::Form::field_ok))]
+fn field_ok(x: u8, t: usize, answer: u8, h: Head) -> bool
+    ensures { result ≡ field_ok x t answer h.tags h.regs }
 {
-    if x == 255 {
-        return true;
-    }
-    if answer == 255 {
-        return false;
-    }
-    if tags <= t {
-        return false;
-    }
-    x < regs
+    x == NONE || answer != NONE && t < h.tags && usize::from(x) < h.regs
 }
 
 // Whether the eight are.
-fn fields_ok(s: &[u8], at: usize, answer: usize, tags: usize, regs: usize) -> bool
+fn fields_ok(s: &[u8], at: usize, answer: u8, h: Head) -> bool
     requires { at + 8 ≤ length s.now }
-    ensures { result ≡ fields_ok 8 s.now at answer tags regs }
+    ensures { result ≡ fields_ok s.now at answer h.tags h.regs }
 {
-    let mut k: usize = 8;
-    while 0 < k {
-        k -= 1;
-        let x = s[at + k] as usize;
-        if !field_ok(x, k, answer, tags, regs) {
-            return false;
-        }
-    }
-    true
+    (0..8).all(|t| field_ok(s[at + t], t, answer, h))
 }
 
 // Whether every situation has begun, and the last one has its row to 255.
 #[tactic(auto, using(std::proofs::lemmas::Bool::Decides::nat_tests), unfolding(ground::specs::Pick::pick, crate::specs::Form::whole))]
-fn complete(begun: usize, lo: usize, sits: usize) -> bool
-    ensures { result ≡ whole begun lo sits }
+fn complete(f: Cursor, h: Head) -> bool
+    ensures { result ≡ whole f.begun f.lo h.sits }
 {
-    if sits <= begun {
-        return lo == 256;
-    }
-    false
+    h.sits <= f.begun && f.lo == ALL
 }
 
-// The fault of a kind that is not allowed where the pass stands; 0 for none.
-fn kind_fault(kind: u8, begun: usize, lo: usize, sits: usize) -> u8
-    ensures { result ≡ kind_fault kind begun lo sits }
+// Whether a kind of item is allowed where the pass stands.
+#[tactic(auto, using(std::proofs::lemmas::Bool::Decides::nat_tests), unfolding(ground::specs::Pick::pick, crate::specs::Form::kind_fault))]
+fn kind_fault(kind: u8, f: Cursor, h: Head) -> Result<(), Kind>
+    ensures { result ≡ kind_fault kind f.begun f.lo h.sits }
 {
-    if kind == 0x24 {
-        if begun == 0 {
-            return KIND;
-        }
-        if lo == 0 {
-            return KIND;
-        }
-        return 0;
+    match kind {
+        MOVE if f.begun == 0 || f.lo == 0 => Err(Kind::Misplaced),
+        SET if f.lo == 0 => Err(Kind::Misplaced),
+        MOVE | SET => Ok(()),
+        _ if complete(f, h) => Err(Kind::Extra),
+        ROW if f.begun == 0 => Err(Kind::Misplaced),
+        ROW if f.lo == ALL => Err(Kind::Rows),
+        SITUATION if f.lo != ALL => Err(Kind::Rows),
+        ROW | SITUATION => Ok(()),
+        _ => Err(Kind::Misplaced),
     }
-    if kind == 0x25 {
-        if lo == 0 {
-            return KIND;
-        }
-        return 0;
-    }
-    if complete(begun, lo, sits) {
-        return EXTRA;
-    }
-    if kind == 0x23 {
-        if begun == 0 {
-            return KIND;
-        }
-        if lo == 256 {
-            return ROWS;
-        }
-        return 0;
-    }
-    if kind == 0x22 {
-        if lo == 256 {
-            return 0;
-        }
-        return ROWS;
-    }
-    KIND
 }
 
 // A SITUATION item.
-fn sit_step(f: Cursor, s: &[u8], h: Head) -> Went
+#[tactic(auto, using(std::proofs::lemmas::Bool::Decides::nat_tests), unfolding(ground::specs::Pick::pick, crate::specs::Form::sit_step))]
+fn sit_step(f: Cursor, s: &[u8], h: Head) -> Result<Cursor, Kind>
     requires { (f.at < length s.now) × (f.begun < h.sits) }
     ensures { result ≡ sit_step s.now h f }
 {
-    let at = f.at;
-    let begun = f.begun;
-    let tags = h.tags;
-    let regs = h.regs;
-    if s.len() - at < 10 {
-        return Went::Bad(SHORT, at);
+    if s.len() - f.at < 10 {
+        return Err(Kind::Short);
     }
-    let answer = s[at + 1] as usize;
-    if fields_ok(s, at + 2, answer, tags, regs) {
-        return Went::On(Cursor {
-            at: at + 10,
-            begun: begun + 1,
-            lo: 0,
-            low: 0,
-        });
+    if !fields_ok(s, f.at + 2, s[f.at + 1], h) {
+        return Err(Kind::Field);
     }
-    Went::Bad(FIELD, at)
-}
-
-// A ROW item.
-#[tactic(auto, using(std::proofs::lemmas::Bool::Decides::nat_tests), unfolding(ground::specs::Pick::pick, crate::specs::Form::row_step))]
-fn row_step(f: Cursor, s: &[u8], h: Head) -> Went
-    requires { f.at < length s.now }
-    ensures { result ≡ row_step s.now h f }
-{
-    let at = f.at;
-    let begun = f.begun;
-    let lo = f.lo;
-    let sits = h.sits;
-    if s.len() - at < 4 {
-        return Went::Bad(SHORT, at);
-    }
-    let from = s[at + 1] as usize;
-    let hi = s[at + 2] as usize;
-    let next = s[at + 3] as usize;
-    if hi < from {
-        return Went::Bad(FIELD, at);
-    }
-    if sits <= next {
-        return Went::Bad(FIELD, at);
-    }
-    if from != lo {
-        return Went::Bad(ROWS, at);
-    }
-    Went::On(Cursor {
-        at: at + 4,
-        begun,
-        lo: hi + 1,
+    Ok(Cursor {
+        at: f.at + 10,
+        begun: f.begun + 1,
+        lo: 0,
         low: 0,
     })
 }
 
+// A ROW item.
+#[tactic(auto, using(std::proofs::lemmas::Bool::Decides::nat_tests), unfolding(ground::specs::Pick::pick, crate::specs::Form::row_step))]
+fn row_step(f: Cursor, s: &[u8], h: Head) -> Result<Cursor, Kind>
+    requires { f.at < length s.now }
+    ensures { result ≡ row_step s.now h f }
+{
+    let [_, from, hi, next, ..] = &s[f.at..] else {
+        return Err(Kind::Short);
+    };
+    if hi < from || h.sits <= usize::from(*next) {
+        return Err(Kind::Field);
+    }
+    if usize::from(*from) != f.lo {
+        return Err(Kind::Rows);
+    }
+    Ok(Cursor {
+        at: f.at + 4,
+        lo: usize::from(*hi) + 1,
+        low: 0,
+        ..f
+    })
+}
+
 // A MOVE item.
-fn move_step(f: Cursor, s: &[u8], h: Head) -> Went
+#[tactic(auto, using(std::proofs::lemmas::Bool::Decides::nat_tests), unfolding(ground::specs::Pick::pick, crate::specs::Form::move_step))]
+fn move_step(f: Cursor, s: &[u8], h: Head) -> Result<Cursor, Kind>
     requires { f.at < length s.now }
     ensures { result ≡ move_step s.now h f }
 {
-    let at = f.at;
-    let begun = f.begun;
-    let lo = f.lo;
-    let low = f.low;
-    let regs = h.regs;
-    if s.len() - at < 3 {
-        return Went::Bad(SHORT, at);
+    let [_, to, from, ..] = &s[f.at..] else {
+        return Err(Kind::Short);
+    };
+    let to = usize::from(*to);
+    if to < f.low || h.regs <= to || h.regs <= usize::from(*from) {
+        return Err(Kind::Field);
     }
-    let to = s[at + 1] as usize;
-    let from = s[at + 2] as usize;
-    if to < low {
-        return Went::Bad(FIELD, at);
-    }
-    if regs <= to {
-        return Went::Bad(FIELD, at);
-    }
-    if regs <= from {
-        return Went::Bad(FIELD, at);
-    }
-    Went::On(Cursor {
-        at: at + 3,
-        begun,
-        lo,
+    Ok(Cursor {
+        at: f.at + 3,
         low: to + 1,
+        ..f
     })
 }
 
 // A SET item.
-fn set_step(f: Cursor, s: &[u8], h: Head) -> Went
+#[tactic(auto, using(std::proofs::lemmas::Bool::Decides::nat_tests), unfolding(ground::specs::Pick::pick, crate::specs::Form::set_step))]
+fn set_step(f: Cursor, s: &[u8], h: Head) -> Result<Cursor, Kind>
     requires { f.at < length s.now }
     ensures { result ≡ set_step s.now h f }
 {
-    let at = f.at;
-    let begun = f.begun;
-    let lo = f.lo;
-    let low = f.low;
-    let regs = h.regs;
-    if s.len() - at < 2 {
-        return Went::Bad(SHORT, at);
+    let [_, to, ..] = &s[f.at..] else {
+        return Err(Kind::Short);
+    };
+    let to = usize::from(*to);
+    if to < f.low || h.regs <= to {
+        return Err(Kind::Field);
     }
-    let to = s[at + 1] as usize;
-    if to < low {
-        return Went::Bad(FIELD, at);
-    }
-    if regs <= to {
-        return Went::Bad(FIELD, at);
-    }
-    Went::On(Cursor {
-        at: at + 2,
-        begun,
-        lo,
+    Ok(Cursor {
+        at: f.at + 2,
         low: to + 1,
+        ..f
     })
 }
 
 // The item at the cursor's place.
-fn step(f: Cursor, s: &[u8], h: Head) -> Went
+#[tactic(auto, using(crate::proofs::Allowed::kind_told, crate::proofs::Allowed::step_bad, crate::proofs::Allowed::step_sit, crate::proofs::Allowed::step_row, crate::proofs::Allowed::step_move, crate::proofs::Allowed::step_set))]
+fn step(f: Cursor, s: &[u8], h: Head) -> Result<Cursor, Kind>
     requires { f.at < length s.now }
     ensures { result ≡ step_form s.now h f }
 {
-    let at = f.at;
-    let begun = f.begun;
-    let lo = f.lo;
-    let sits = h.sits;
-    let kind = s[at];
-    let fault = kind_fault(kind, begun, lo, sits);
-    if fault != 0 {
-        return Went::Bad(fault, at);
+    let kind = s[f.at];
+    kind_fault(kind, f, h)?;
+    match kind {
+        SITUATION => sit_step(f, s, h),
+        ROW => row_step(f, s, h),
+        MOVE => move_step(f, s, h),
+        _ => set_step(f, s, h),
     }
-    if kind == 0x22 {
-        return sit_step(f, s, h);
-    }
-    if kind == 0x23 {
-        return row_step(f, s, h);
-    }
-    if kind == 0x24 {
-        return move_step(f, s, h);
-    }
-    set_step(f, s, h)
 }
 
 // The end of the file: no kind byte may be missing.
-fn ended(f: Cursor, h: Head) -> Verdict
+#[tactic(auto, unfolding(ground::specs::Pick::pick, crate::specs::Form::end_form))]
+fn ended(f: Cursor, h: Head) -> Result<(), Fault>
     ensures { result ≡ end_form h f }
 {
-    let at = f.at;
-    let begun = f.begun;
-    let lo = f.lo;
-    let sits = h.sits;
-    if complete(begun, lo, sits) {
-        return Verdict::Fine;
+    if complete(f, h) {
+        return Ok(());
     }
-    Verdict::Fault(SHORT, at)
+    Err(Fault {
+        kind: Kind::Short,
+        at: f.at,
+    })
 }
 
 // The items after the HEAD.
-fn items(s: &[u8], h: Head) -> Verdict
+#[tactic(auto, using(crate::proofs::Passing::pass_begins, crate::proofs::Passing::pass_moves, crate::proofs::Passing::pass_on, crate::proofs::Passing::pass_bad, crate::proofs::Passing::pass_ends))]
+fn items(s: &[u8], h: Head) -> Result<(), Fault>
     ensures { result ≡ form_from (length s.now) s.now h begin }
 {
     let mut f = Cursor {
         at: 5,
         begun: 0,
-        lo: 256,
+        lo: ALL,
         low: 0,
     };
-    let n = s.len();
-    let mut at: usize = 5;
-    while at < n {
-        let w = step(f, s, h);
-        match w {
-            Went::On(g) => {
-                f = g;
-                at = g.at;
-            }
-            Went::Bad(kind, item) => {
-                return Verdict::Fault(kind, item);
-            }
-        }
+    // A loop: items differ in length, so the next place is known only after the item.
+    while f.at < s.len() {
+        f = step(f, s, h).map_err(|kind| Fault { kind, at: f.at })?;
     }
     ended(f, h)
 }
 
 // The first fault of a table file, or that its form is right.
-pub fn first_fault(s: &[u8]) -> Verdict
+#[tactic(auto, using(crate::proofs::Formed::verdict_of, crate::proofs::Formed::verdict_wrong))]
+pub fn first_fault(s: &[u8]) -> Result<(), Fault>
     ensures { result ≡ form_of s.now }
 {
-    let head = read_head(s);
-    match head {
-        HeadItem::Counts(h) => items(s, h),
-        HeadItem::Wrong(kind) => Verdict::Fault(kind, 0),
-    }
+    let h = read_head(s).map_err(|kind| Fault { kind, at: 0 })?;
+    items(s, h)
 }
 
 // Whether the form of a table file is right.
+#[tactic(auto, using(crate::proofs::Formed::ok_right, crate::proofs::Formed::ok_wrong))]
 pub fn form_ok(s: &[u8]) -> bool
     ensures { FormOk s.now result }
 {
-    let v = first_fault(s);
-    match v {
-        Verdict::Fine => true,
-        Verdict::Fault(_, _) => false,
-    }
+    first_fault(s).is_ok()
 }

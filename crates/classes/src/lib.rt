@@ -4,6 +4,9 @@
 ghost use Rattle.std.specs.Prelude.{◌≡◌};
 ghost use Rattle.classes.specs.Class.{class_word, in_class};
 
+// How many classes there are.
+const CLASSES: u8 = 12;
+
 const CLASS_WORDS: [u16; 256] = [
     8, 8, 8, 8, 8, 8, 8, 8, 8, 524, 520, 520, 520, 520, 8, 8, 8, 8, 8, 8, 8, 8, 8, 8, 8, 8, 8, 8,
     8, 8, 8, 8, 644, 416, 416, 416, 416, 416, 416, 416, 416, 416, 416, 416, 416, 416, 416, 416,
@@ -22,16 +25,12 @@ const CLASS_WORDS: [u16; 256] = [
 pub fn class_word(b: u8) -> u16
     ensures { result ≡ class_word b }
 {
-    CLASS_WORDS[b as usize]
+    CLASS_WORDS[usize::from(b)]
 }
 
 // Whether a byte is in class k. No byte is in a class past the twelfth.
 pub fn in_class(k: u8, b: u8) -> bool
     ensures { result ≡ in_class k b }
 {
-    if k < 12 {
-        let word = class_word(b);
-        return (word >> k) % 2 == 1;
-    }
-    false
+    k < CLASSES && (class_word(b) >> k) % 2 == 1
 }

@@ -6,13 +6,15 @@ use mathlib.Core.Bool.{Bool, true, false}
 use mathlib.Core.List.{List}
 use Prim.Native.Nat.{ℕ}
 use Rattle.ground.specs.Pick.{pick}
+use Rattle.std.specs.Prelude.{Result}
+use Rattle.answers.specs.declared.Refusal.{Refusal}
 use Rattle.net.specs.Items.{NetRead, net, refused, net_of}
-use Rattle.build.specs.Build.{Done, Builds, makes, of_net, build_of}
+use Rattle.build.specs.Build.{answered, Done, Builds, makes, of_net, build_of}
 use Rattle.build.specs.declared.Built.{Built}
 use Rattle.build.proofs.Refuses as refuses
 use Rattle.pattern.specs.Maker.{Given, given, maker, judged}
 use Rattle.pattern.specs.Reader.{Res, ok, form, deep, alts, read}
-use Rattle.pattern.specs.declared.Made.{Made}
+use Rattle.pattern.specs.Made.{Made}
 
 -- a choice by a test keeps what both sides keep
 either : {A : Type 0} (P : A → Type 0) (c : Bool) {x y : A} → P x → P y → P (pick c x y)
@@ -51,5 +53,5 @@ build_keeps file room out = either (Stays out) _ (λ _. refl) (by (net_of file))
     by (refused f) = λ _. refl
 
 -- a second result, output and work memory that meet the promise of `build` are equal
-pub build_one : (file work out : List ℕ) (w v o p : List ℕ) (a b : Built) → Builds file work out w o a → Builds file work out v p b → (a ≡ b) × ((o ≡ p) × (w ≡ v))
+pub build_one : (file work out : List ℕ) (w v o p : List ℕ) (a b : Result Built Refusal) → Builds file work out w o (answered a) → Builds file work out v p (answered b) → (a ≡ b) × ((o ≡ p) × (w ≡ v))
 build_one = refuses.build_one

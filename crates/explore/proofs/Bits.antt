@@ -1,35 +1,45 @@
 -- Marks in an array, absent places, and laws of lists and tests. Assumes nothing.
 use mathlib.Core.Path.{◌≡◌, refl, sym, ap, ◌∙◌}
-use mathlib.Core.Bool.{Bool, true, false, ◌||◌, cond}
+use mathlib.Core.Bool.{Bool, true, false, ◌||◌}
 use mathlib.Core.List.{List, [], ◌∷◌, ◌++◌, foldl}
 use mathlib.Core.Option.{none, some}
 use Prim.Native.Nat.{ℕ, zero, suc, ◌+◌, ◌≤◌, ◌<◌}
 use native.Mathlib.Numerals.{add-one}
 use native.Mathlib.Omega.{arith}
 use lib.Dec.{eqb, eqb_refl}
-use lib.ListN.{length, get_or, set, replicate}
+use lib.ListN.{length, get_or, set, replicate, length-set}
+use lib.Seq.{get_or-set_same, get_or-set_other}
 use borrow.Author.Tests.{ne_eqb}
+use Rattle.std.proofs.lemmas.Bool.{true≢false}
 use Rattle.ground.proofs.Tests.{or_false, or_assoc}
 use Rattle.paths.specs.Search.{has}
 use Rattle.paths.proofs.Member.{of_T}
-use Rattle.explore.specs.States.{ones, opt}
+use Rattle.explore.specs.States.{ones, opt, count_of, MarkedBy}
 
-pub ones_le : (l : List ℕ) → ones l ≤ length l
+pub ones_le : (l : List Bool) → ones l ≤ length l
 ones_le [] = omega arith
-ones_le (x ∷ l) = by (ones_le l) (eqb x 1)
-  where
-    by : ones l ≤ length l → (c : Bool) → cond c (suc (ones l)) (ones l) ≤ suc (length l)
-    by h true = omega arith
-    by h false = omega arith
+ones_le (true ∷ l) = let h = ones_le l in omega arith
+ones_le (false ∷ l) = let h = ones_le l in omega arith
 
-pub ones_set : (l : List ℕ) (r : ℕ) → r < length l → eqb (get_or l r 0) 1 ≡ false → ones (set l r 1) ≡ ones l + 1
+pub ones_set : (l : List Bool) (r : ℕ) → r < length l → get_or l r false ≡ false → ones (set l r true) ≡ ones l + 1
 ones_set [] r b h = absurd (omega arith)
-ones_set (x ∷ l) zero b h = rw h (sym (add-one (ones l)))
-ones_set (x ∷ l) (suc r) b h = by (ones_set l r (omega arith) h) (eqb x 1)
-  where
-    by : ones (set l r 1) ≡ ones l + 1 → (c : Bool) → cond c (suc (ones (set l r 1))) (ones (set l r 1)) ≡ cond c (suc (ones l)) (ones l) + 1
-    by e true = ap suc e ∙ omega arith
-    by e false = e
+ones_set (true ∷ l) zero b h = absurd (true≢false h)
+ones_set (false ∷ l) zero b h = sym (add-one (ones l))
+ones_set (true ∷ l) (suc r) b h = ap suc (ones_set l r (omega arith) h) ∙ omega arith
+ones_set (false ∷ l) (suc r) b h = ones_set l r (omega arith) h
+
+-- r is marked
+pub marked_by : (m : List Bool) (r i : ℕ) → i ≡ r → length m ≡ 64 → r < 64 → MarkedBy m r (set m i true)
+unfolding count_of
+marked_by m r i e l h =
+    rw e
+    (record {
+      size = length-set m r true;
+      here = get_or-set_same m r true false (omega arith);
+      else = λ q d. get_or-set_other m r q true false d;
+      more = ones_set m r (omega arith);
+      room = omega (arith, ones_le (set m r true), length-set m r true);
+    })
 
 pub foldl_append : {A B : Type 0} (g : B → A → B) (z : B) (l k : List A) → foldl g z (l ++ k) ≡ foldl g (foldl g z l) k
 foldl_append g z [] k = refl
@@ -49,10 +59,10 @@ has_last l r = has_append r l (r ∷ []) ∙ ap (λ v. has r l || (v || false)) 
 pub has_else : (l : List ℕ) (q r : ℕ) → (q ≡ r → ⊥) → has q (l ++ (r ∷ [])) ≡ has q l
 has_else l q r h = has_append q l (r ∷ []) ∙ ap (λ v. has q l || (v || false)) (ne_eqb q r h) ∙ or_false (has q l)
 
-pub zeros_unmarked : (n r : ℕ) → eqb (get_or (replicate n 0) r 0) 1 ≡ false
-zeros_unmarked zero r = refl
-zeros_unmarked (suc n) zero = refl
-zeros_unmarked (suc n) (suc r) = zeros_unmarked n r
+pub none_marked : (n r : ℕ) → get_or (replicate n false) r false ≡ false
+none_marked zero r = refl
+none_marked (suc n) zero = refl
+none_marked (suc n) (suc r) = none_marked n r
 
 pub opt_none : (v : ℕ) → v ≡ 255 → opt v ≡ none
 opt_none v e = rw e

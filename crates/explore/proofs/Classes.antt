@@ -1,29 +1,30 @@
 -- A byte that every record treats as the byte before it leads nowhere new. Assumes nothing.
-use mathlib.Core.Path.{◌≡◌, refl, sym, ap, subst, ◌∙◌}
+use mathlib.Core.Path.{◌≡◌, refl, sym, ap, ◌∙◌}
 use mathlib.Core.Logic.{◌⊎◌, inl, inr}
 use mathlib.Core.Bool.{true, false}
 use mathlib.Core.List.{List, [], ◌∷◌, ◌++◌, map}
 use Prim.Native.Nat.{ℕ, ◌+◌, ◌-◌, ◌<◌}
 use native.Mathlib.Omega.{arith}
-use lib.Dec.{eqb}
-use lib.ListN.{length, get_or, set, replicate, length-set, length-replicate, get_or-replicate}
-use lib.Seq.{get_or-set_other}
-use borrow.Author.Tests.{eqb-true, eqb-false}
+use lib.Seq.{get_or-set_same, get_or-set_other}
+use lib.ListN.{length, get_or, set, length-set}
 use Rattle.net.specs.Rec.{Net, rec}
 use Rattle.paths.specs.Search.{Thread}
 use Rattle.ground.specs.Lists.{each}
+use Rattle.std.specs.Prelude.{Option, Some, None}
+use Rattle.paths.specs.Ways.{eat}
 use Rattle.paths.specs.Situation.{bite, follow, on_byte, close}
 use Rattle.paths.specs.Registers.{Tags, tagged, registers, standing, step, number, next, origins}
 use Rattle.paths.specs.Equal.{same_situation}
 use Rattle.paths.specs.Numbering.{among, put, once}
 use Rattle.paths.proofs.Member.{Bool-cases}
+use Rattle.std.proofs.lemmas.Bool.{cases_eq}
 use Rattle.paths.proofs.Builder.{situation_test}
 use Rattle.net.specs.Items.{net_at}
 use Rattle.explore.specs.Items.{Formed, lands}
 use Rattle.explore.specs.States.{Below}
 use Rattle.paths.specs.Limits.{bytes}
 use Rattle.paths.specs.Limits.{Sit}
-use Rattle.explore.specs.Explore.{Alike, Told}
+use Rattle.explore.specs.Explore.{Alike}
 use Rattle.explore.proofs.Reading.{net_inside}
 use Rattle.explore.proofs.Biting.{bite_some, bite_none}
 use Rattle.explore.proofs.Exploration.{once_snoc}
@@ -32,20 +33,15 @@ use Rattle.explore.proofs.Bits.{or_true}
 module _ {F offs : List ℕ} (w : Formed F offs) (b c : ℕ) (same : (r : ℕ) → r < length offs → lands (bite b (rec (net_at F offs) r)) ≡ lands (bite c (rec (net_at F offs) r))) (k : ℕ) where
   byte_same : (s : Thread Tags) → s.on < length offs → on_byte (tagged k) (net_at F offs) b s ≡ on_byte (tagged k) (net_at F offs) c s
   unfolding on_byte
-  byte_same s h = by (Bool-cases (eqb (lands (bite b (rec (net_at F offs) s.on))) 255))
+  byte_same s h = by (lands (bite b (rec (net_at F offs) s.on))) refl (same s.on h)
     where
-      by : (eqb (lands (bite b (rec (net_at F offs) s.on))) 255 ≡ true) ⊎ (eqb (lands (bite b (rec (net_at F offs) s.on))) 255 ≡ false)
+      by : (o : Option ℕ) → o ≡ lands (bite b (rec (net_at F offs) s.on)) → o ≡ lands (bite c (rec (net_at F offs) s.on))
           → follow (tagged k) s.had (bite b (rec (net_at F offs) s.on)) ≡ follow (tagged k) s.had (bite c (rec (net_at F offs) s.on))
-      by (inl e) =
-          let z = eqb-true (lands (bite b (rec (net_at F offs) s.on))) 255 e in
-          let p = bite_none (length offs) b (lands (bite b (rec (net_at F offs) s.on))) (rec (net_at F offs) s.on) w.few (net_inside w s.on h) refl z in
-          let q = bite_none (length offs) c (lands (bite b (rec (net_at F offs) s.on))) (rec (net_at F offs) s.on) w.few (net_inside w s.on h) (same s.on h) z in
-          rw (p, q)
-      by (inr e) =
-          let z = eqb-false (lands (bite b (rec (net_at F offs) s.on))) 255 e in
-          let p = (bite_some (length offs) b (lands (bite b (rec (net_at F offs) s.on))) (rec (net_at F offs) s.on) (net_inside w s.on h) refl z).0 in
-          let q = (bite_some (length offs) c (lands (bite b (rec (net_at F offs) s.on))) (rec (net_at F offs) s.on) (net_inside w s.on h) (same s.on h) z).0 in
-          ap (follow (tagged k) s.had) p ∙ sym (ap (follow (tagged k) s.had) q)
+      by None p q = rw (bite_none b (rec (net_at F offs) s.on) p, bite_none c (rec (net_at F offs) s.on) q)
+      by (Some x) p q =
+          let r : follow (tagged k) s.had ((eat b, x) ∷ []) ≡ follow (tagged k) s.had ((eat c, x) ∷ []) = refl in
+          ap (follow (tagged k) s.had) (bite_some (length offs) b x (rec (net_at F offs) s.on) (net_inside w s.on h) p).0 ∙ r
+          ∙ sym (ap (follow (tagged k) s.had) (bite_some (length offs) c x (rec (net_at F offs) s.on) (net_inside w s.on h) q).0)
 
   each_same : (l : List (Thread Tags)) → Below (length offs) l → each (on_byte (tagged k) (net_at F offs) b) l ≡ each (on_byte (tagged k) (net_at F offs) c) l
   each_same [] h = refl
@@ -82,22 +78,30 @@ module _ {F offs : List ℕ} (w : Formed F offs) (b : ℕ) (a : Alike (net_at F 
           by (inl e) = rw (e, e)
           by (inr e) = let q : put same_situation f x ≡ f ++ (x ∷ []) = rw e in (let m : put same_situation (f ++ (x ∷ [])) x ≡ f ++ (x ∷ []) = rw (at_end f x) in ap (λ v. put same_situation v x) q ∙ m ∙ sym q)
 
--- one record more
-pub alike_more : (A : Net) (b c r : ℕ) → ((k : ℕ) → k < r → lands (bite b (rec A k)) ≡ lands (bite c (rec A k))) → lands (bite b (rec A r)) ≡ lands (bite c (rec A r)) → (k : ℕ) → k < r + 1 → lands (bite b (rec A k)) ≡ lands (bite c (rec A k))
-alike_more A b c r h e k d = by (Bool-cases (eqb k r))
-  where
-    by : (eqb k r ≡ true) ⊎ (eqb k r ≡ false) → lands (bite b (rec A k)) ≡ lands (bite c (rec A k))
-    by (inl z) = let q = eqb-true k r z in rw q e
-    by (inr z) = let q = eqb-false k r z in h k (omega arith)
+-- the marks, once the records below r and of record r the bytes below b have been gone through
+pub record Marks (A : Net) (t : List ℕ) (r b : ℕ) : Type 0 where
+  pub size : length t ≡ 256
+  pub start : get_or t 0 0 ≡ 1
+  pub below : (k c : ℕ) → k < r → c < 256 → get_or t c 0 ≡ 0 → lands (bite c (rec A k)) ≡ lands (bite (c - 1) (rec A k))
+  pub here : (c : ℕ) → c < b → get_or t c 0 ≡ 0 → lands (bite c (rec A r)) ≡ lands (bite (c - 1) (rec A r))
 
--- marks of which none is 0 tell nothing
-pub told_none : (A : Net) (N : ℕ) → Told A N (replicate 256 1)
-told_none A N = record { size = length-replicate {A = ℕ} 256 1; old = λ b d e. absurd (let z : ◌≡◌ {A = ℕ} 1 0 = sym (get_or-replicate {A = ℕ} 256 b 1 0 d) ∙ e in omega arith) }
+module _ (A : Net) (t : List ℕ) (r b : ℕ) (m : Marks A t r b) where
+  -- byte b is marked
+  pub marks_set : b < 256 → Marks A (set t b 1) r (b + 1)
+  marks_set h =
+      record {
+        size = length-set t b 1 ∙ m.size;
+        start = elim (cases_eq 0 b) [ inl e ↦ ap (λ v. get_or (set t b 1) v 0) e ∙ get_or-set_same t b 1 0 (omega (arith, m.size)) | inr n ↦ get_or-set_other t b 0 1 0 n ∙ m.start ];
+        below = λ k c i j z. m.below k c i j (old c z).1;
+        here = λ c i z. m.here c (omega (arith, (old c z).0)) (old c z).1;
+      }
+    where
+      old : (c : ℕ) → get_or (set t b 1) c 0 ≡ 0 → (c ≡ b → ⊥) × (get_or t c 0 ≡ 0)
+      old c z = elim (cases_eq c b) [
+        | inl e ↦ absurd (omega (arith, get_or-set_same t b 1 0 (omega (arith, m.size)), ap (λ v. get_or (set t b 1) v 0) e))
+        | inr n ↦ (n, sym (get_or-set_other t b c 1 0 n) ∙ z)
+      ]
 
--- one mark more
-pub told_more : (A : Net) (N : ℕ) (t : List ℕ) (b : ℕ) → Told A N t → Alike A N b → Told A N (set t b 0)
-told_more A N t b h a = record { size = length-set t b 0 ∙ h.size; old = λ k d e. by k d e (Bool-cases (eqb k b)) }
-  where
-    by : (k : ℕ) → k < 256 → get_or (set t b 0) k 0 ≡ 0 → (eqb k b ≡ true) ⊎ (eqb k b ≡ false) → Alike A N k
-    by k d e (inl z) = subst (Alike A N) (sym (eqb-true k b z)) a
-    by k d e (inr z) = h.old k d (sym (get_or-set_other t b k 0 0 (eqb-false k b z)) ∙ e)
+  -- record r treats byte b as the byte before it
+  pub marks_skip : lands (bite b (rec A r)) ≡ lands (bite (b - 1) (rec A r)) → Marks A t r (b + 1)
+  marks_skip e = record { size = m.size; start = m.start; below = m.below; here = λ c h z. elim (cases_eq c b) [ inl q ↦ rw q e | inr n ↦ m.here c (omega arith) z ] }

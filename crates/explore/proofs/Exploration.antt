@@ -10,25 +10,25 @@ use lib.Dec.{eqb}
 use lib.ListN.{length, get_or, take, length-append}
 use lib.Seq.{ext_get_or, drop-cons}
 use borrow.Author.Tests.{eqb-true, eqb-false}
+use Rattle.std.specs.Prelude.{Option, Some, None, is_some, ok_or, Ok, Err}
+use Rattle.std.proofs.lemmas.Bool.{true≢false}
 use Rattle.ground.proofs.Lists.{map_append}
 use Rattle.net.specs.Rec.{Net}
 use Rattle.paths.specs.Search.{choose}
 use Rattle.ground.specs.Lists.{each}
-use Rattle.paths.specs.Registers.{registers, next}
+use Rattle.paths.specs.Registers.{registers, next, situation}
 use Rattle.paths.specs.Equal.{same_situation}
 use Rattle.paths.specs.Numbering.{among, put, once, nexts, explored}
 use Rattle.paths.proofs.Member.{Bool-cases}
 use Rattle.explore.specs.States.{Below}
-use Rattle.explore.specs.Keys.{Stepped, Begun}
+use Rattle.explore.specs.Keys.{Is, Stepped, Begun}
 use Rattle.explore.specs.Slots.{threads_at, slot, slots, Stored, Loaded, Fit, Placed}
 use Rattle.paths.specs.Limits.{bytes}
-use Rattle.paths.specs.Limits.{Sit, TooManyRegisters, TooManySituations, first, here, partly, at_start, at_byte}
-use Rattle.explore.specs.Explore.{Holds, Kept, Tries, Expands, Explores}
-use Rattle.explore.specs.declared.Tried.{Tried}
+use Rattle.paths.specs.Limits.{Sit, first, here, partly, at_byte}
+use Rattle.answers.specs.declared.Refusal.{Refusal}
+use Rattle.answers.specs.declared.Refusal.TheVariants.{Registers, Situations}
+use Rattle.explore.specs.Explore.{Holds, Kept, Refused, Tries, Expands, Explores}
 use Rattle.explore.proofs.Memory.{threads_at_same, slot_moved}
-
-put_known : (found : List Sit) (s : Sit) → among same_situation s found ≡ true → put same_situation found s ≡ found
-put_known found s e = rw e
 
 put_new : (found : List Sit) (s : Sit) → among same_situation s found ≡ false → put same_situation found s ≡ found ++ (s ∷ [])
 put_new found s e = rw e
@@ -79,68 +79,53 @@ module _ (w w' : List ℕ) (n : ℕ) (l : Sit) (c : ℕ) (s : Stored w w' n l c)
 
 -- ---- the ways through `try_byte`
 
-no : {P : Type 0} {a b : ℕ} → a ≡ b → (a ≡ b → ⊥) → P
-no e h = absurd (h e)
+not_placed : (w : List ℕ) (count : ℕ) (l : Sit) (p : Option ℕ) → Placed w count l p → is_some p ≡ false → among same_situation l (slots w 0 count) ≡ false
+not_placed w count l None h e = h
+not_placed w count l (Some j) h e = absurd (true≢false e)
 
-module _ (A : Net) (N : ℕ) (w : List ℕ) (count : ℕ) (l : Sit) (b : ℕ) (k : Kept N w count) (v r : List ℕ) (t : ℕ) (step : Stepped A N b l v r t) where
-  pub tried_over : 64 < t → Tries A N w w count l b (record { answer = 10; count = count })
-  tried_over o =
-      record {
-        size = refl;
-        fine = λ e. absurd (omega arith);
-        regs = λ _. record { most = omega (arith, slots_length w 0 count, k.most); needs = step.is.over o };
-        sits = λ e. absurd (omega arith);
-        one_of = λ p q. absurd (q refl);
-      }
+module _ (A : Net) (N : ℕ) (w : List ℕ) (count : ℕ) (l : Sit) (b : ℕ) (k : Kept N w count) (v r : List ℕ) where
+  pub tried_over : (a : Option ℕ) → Stepped A N b l v r a → (e : Refusal) → Err e ≡ ok_or a Registers → Tries A N w w count l b (Err e)
+  tried_over None step e q = subst (λ x. Tries A N w w count l b x) (sym q) (record { size = refl; what = record { most = omega (arith, slots_length w 0 count, k.most); needs = step.what } })
+  tried_over (Some t) step e q = let z : ◌≡◌ {A = ℕ} 0 1 = cc in absurd (omega arith)
 
-  module _ (o : t ≤ 64) where
-    pub tried_old : (j : ℕ) → Placed w count (slot v 0) j → j < count → Tries A N w w count l b (record { answer = 0; count = count })
-    tried_old j p c =
+  module _ (a : Option ℕ) (step : Stepped A N b l v r a) {t : ℕ} (fine : a ≡ Some t) (p : Option ℕ) (placed : Placed w count (slot v 0) p) (none : is_some p ≡ false) where
+    fit : Fit N v
+    fit = step.fit
+
+    it : Is (next A b l) v t
+    it = (subst (λ x. Stepped A N b l v r x) fine step).what.0
+
+    new : among same_situation (next A b l) (slots w 0 count) ≡ false
+    new = subst (λ u. among same_situation u (slots w 0 count) ≡ false) it.sit (not_placed w count (slot v 0) p placed none)
+
+    pub tried_full : 96 ≤ count → Tries A N w w count l b (Err Situations)
+    tried_full f =
         record {
           size = refl;
-          fine = λ _. (k, sym (put_known (slots w 0 count) (next A b l) (subst (λ u. among same_situation u (slots w 0 count) ≡ true) (step.is.sit o) (p.found c).0)));
-          regs = λ e. absurd (omega arith);
-          sits = λ e. absurd (omega arith);
-          one_of = λ p q. absurd (p refl);
-        }
-
-    missing : (j : ℕ) → Placed w count (slot v 0) j → count ≤ j → among same_situation (next A b l) (slots w 0 count) ≡ false
-    missing j p c = subst (λ u. among same_situation u (slots w 0 count) ≡ false) (step.is.sit o) (p.missing (omega (arith, p.within)))
-
-    pub tried_full : (j : ℕ) → Placed w count (slot v 0) j → count ≤ j → 96 ≤ count → Tries A N w w count l b (record { answer = 11; count = count })
-    tried_full j p c f =
-        record {
-          size = refl;
-          fine = λ e. absurd (omega arith);
-          regs = λ e. absurd (omega arith);
-          sits = λ _. record { most = omega (arith, slots_length w 0 count, k.most); new = missing j p c; needs = omega (arith, step.is.count o); small = λ j d. by j (omega arith) };
-          one_of = λ p q. refl;
+          what = record { most = omega (arith, slots_length w 0 count, k.most); new = new; needs = omega (arith, it.few, it.count); small = λ j d. by j (omega arith) };
         }
       where
         by : (j : ℕ) → j < count → length (registers (get_or (slots w 0 count) j [])) ≤ 64
         by j d = let z : 0 + j ≡ j = omega arith in rw (slots_at w 0 count j [] d ∙ ap (slot w) z) (k.holds j d).small
 
-    pub tried_new : (j : ℕ) → Placed w count (slot v 0) j → count ≤ j → count < 96 → (w' : List ℕ) → Stored w w' count (slot v 0) (get_or v 1 0) → Tries A N w w' count l b (record { answer = 0; count = count + 1 })
-    tried_new j p c f w' s =
+    pub tried_new : count < 96 → (w' : List ℕ) → Stored w w' count (slot v 0) (get_or v 1 0) → Tries A N w w' count l b (Ok (count + 1))
+    tried_new f w' s =
         record {
           size = s.size;
-          fine = λ _. (
+          what = (
             record { room = omega (arith, s.size, k.room); most = omega arith; holds = all },
             slots_snoc w' count ∙ ap (λ v. v ++ (slot w' count ∷ [])) (slots_same w w' count (λ j b. slot_same w w' count _ _ s j b (k.holds j b).few))
-                ∙ ap (λ v. slots w 0 count ++ (v ∷ [])) (s.here ∙ step.is.sit o) ∙ sym (put_new (slots w 0 count) (next A b l) (missing j p c)),
+                ∙ ap (λ v. slots w 0 count ++ (v ∷ [])) (s.here ∙ it.sit) ∙ sym (put_new (slots w 0 count) (next A b l) new),
           );
-          regs = λ e. absurd (omega arith);
-          sits = λ e. absurd (omega arith);
-          one_of = λ p q. absurd (p refl);
         }
       where
         last : Holds N w' count
         last =
             record {
               few = s.few;
-              count = s.count ∙ step.is.tally o ∙ step.is.count o ∙ ap (λ v. length (registers v)) (sym (s.here ∙ step.is.sit o));
-              small = omega (arith, step.is.count o, ap (λ v. length (registers v)) (s.here ∙ step.is.sit o));
-              below = subst (λ v. Below N v) (sym s.here) step.is.fit.below;
+              count = s.count ∙ it.tally ∙ it.count ∙ ap (λ v. length (registers v)) (sym (s.here ∙ it.sit));
+              small = omega (arith, it.few, it.count, ap (λ v. length (registers v)) (s.here ∙ it.sit));
+              below = subst (λ v. Below N v) (sym s.here) fit.below;
             }
 
         all : (i : ℕ) → i < count + 1 → Holds N w' i
@@ -179,33 +164,21 @@ once_snoc found f n =
 pub once_none : (found : List Sit) (f : ℕ → Sit) → found ≡ once same_situation found (map f (bytes 0 0))
 once_none found f = ap (λ v. once same_situation found (map f v)) (sym no_bytes)
 
-module _ (A : Net) (N : ℕ) (w₀ w w' : List ℕ) (count n : ℕ) (l l₀ : Sit) (same : l ≡ l₀) (b : ℕ) (a : Tried) (size : length w ≡ length w₀)
-    (so_far : slots w 0 n ≡ once same_situation (slots w₀ 0 count) (map (λ b. next A b l) (bytes 0 b))) (t : Tries A N w w' n l b a) where
-  pub expand_stop : b < 256 → (a.answer ≡ 0 → ⊥) → Expands A N w₀ w' count l₀ a
-  expand_stop c h =
-      subst (λ v. Expands A N w₀ w' count v a) same
-      (record {
-        size = t.size ∙ size;
-        fine = λ e. absurd (h e);
-        regs = λ e. (b, (c, subst (λ v. TooManyRegisters v (next A b l)) so_far (t.regs e)));
-        sits = λ e. (b, (c, subst (λ v. TooManySituations v (next A b l)) so_far (t.sits e)));
-        one_of = t.one_of;
-      })
+module _ (A : Net) (N : ℕ) (w₀ w w' : List ℕ) (count n : ℕ) (l l₀ : Sit) (same : l ≡ l₀) (b : ℕ) (size : length w ≡ length w₀)
+    (so_far : slots w 0 n ≡ once same_situation (slots w₀ 0 count) (map (λ b. next A b l) (bytes 0 b))) where
+  pub expand_stop : (e : Refusal) → Tries A N w w' n l b (Err e) → b < 256 → Expands A N w₀ w' count l₀ (Err e)
+  expand_stop e t c =
+      subst (λ v. Expands A N w₀ w' count v (Err e)) same
+      (record { size = t.size ∙ size; what = (b, (c, subst (λ v. Refused v (next A b l) e) so_far t.what)) })
 
-  pub expand_on : a.answer ≡ 0 → Kept N w' a.count × (slots w' 0 a.count ≡ once same_situation (slots w₀ 0 count) (map (λ b. next A b l) (bytes 0 (b + 1))))
-  expand_on e = ((t.fine e).0, (t.fine e).1 ∙ ap (λ v. put same_situation v (next A b l)) so_far ∙ sym (once_snoc (slots w₀ 0 count) (λ b. next A b l) b))
+  pub expand_on : (m : ℕ) → Tries A N w w' n l b (Ok m) → Kept N w' m × (slots w' 0 m ≡ once same_situation (slots w₀ 0 count) (map (λ b. next A b l) (bytes 0 (b + 1))))
+  expand_on m t = (t.what.0, t.what.1 ∙ ap (λ v. put same_situation v (next A b l)) so_far ∙ sym (once_snoc (slots w₀ 0 count) (λ b. next A b l) b))
 
 pub expanded : (A : Net) (N : ℕ) (w₀ w : List ℕ) (count n : ℕ) (l l₀ : Sit) → l ≡ l₀ → (b : ℕ) → b ≡ 256 → length w ≡ length w₀ → Kept N w n
-    → slots w 0 n ≡ once same_situation (slots w₀ 0 count) (map (λ b. next A b l) (bytes 0 b)) → Expands A N w₀ w count l₀ (record { answer = 0; count = n })
+    → slots w 0 n ≡ once same_situation (slots w₀ 0 count) (map (λ b. next A b l) (bytes 0 b)) → Expands A N w₀ w count l₀ (Ok n)
 expanded A N w₀ w count n l l₀ same b e size k h =
-    subst (λ v. Expands A N w₀ w count v (record { answer = 0; count = n })) same
-    (record {
-      size = size;
-      fine = λ _. (k, h ∙ ap (λ v. once same_situation (slots w₀ 0 count) (map (λ b. next A b l) (bytes 0 v))) e);
-      regs = λ e. absurd (omega arith);
-      sits = λ e. absurd (omega arith);
-      one_of = λ p q. absurd (p refl);
-    })
+    subst (λ v. Expands A N w₀ w count v (Ok n)) same
+    (record { size = size; what = (k, h ∙ ap (λ v. once same_situation (slots w₀ 0 count) (map (λ b. next A b l) (bytes 0 v))) e) })
 
 -- a situation that is loaded
 pub loaded : (N : ℕ) (w : List ℕ) (i : ℕ) (l : List ℕ) → Holds N w i → Loaded w i l → (slot l 0 ≡ slot w i) × Holds N l 0
@@ -240,7 +213,7 @@ first_more A i b =
     ∙ ap (λ v. once same_situation (first A i) (each (nexts same_situation (bytes 0 256) (next A)) (take 1 v))) (drop-cons (first A i) i [] b)
     ∙ ap (once same_situation (first A i)) (append-nil (map (λ b. next A b (here A i)) (bytes 0 256)))
 
-module _ (A : Net) (N : ℕ) (w₀ w w' : List ℕ) (count i : ℕ) (a : Tried) (size : length w ≡ length w₀) (so_far : slots w 0 count ≡ first A i) (b : i < count) (x : Expands A N w w' count (slot w i) a) where
+module _ (A : Net) (N : ℕ) (w₀ w w' : List ℕ) (count i : ℕ) (size : length w ≡ length w₀) (so_far : slots w 0 count ≡ first A i) (b : i < count) where
   in_first : i < length (first A i)
   in_first = omega (arith, ap length so_far, slots_length w 0 count)
 
@@ -250,66 +223,44 @@ module _ (A : Net) (N : ℕ) (w₀ w w' : List ℕ) (count i : ℕ) (a : Tried) 
   partly_is : (c : ℕ) → once same_situation (slots w 0 count) (map (λ b. next A b (slot w i)) (bytes 0 c)) ≡ partly A i c
   partly_is c = λ k. once same_situation (so_far k) (map (λ b. next A b (slot_here k)) (bytes 0 c))
 
-  pub explore_stop : (a.answer ≡ 0 → ⊥) → Explores A N w₀ w' a
-  explore_stop h =
-      record {
-        size = x.size ∙ size;
-        fine = λ e. absurd (h e);
-        regs = λ e. let r = x.regs e in at_byte i r.0 in_first r.1.0 (λ-to r);
-        sits = λ e. let r = x.sits e in at_byte i r.0 in_first r.1.0 (λ-to2 r);
-        one_of = x.one_of;
-      }
-    where
-      λ-to : (r : (b : ℕ) × ((b < 256) × TooManyRegisters (once same_situation (slots w 0 count) (map (λ b. next A b (slot w i)) (bytes 0 b))) (next A b (slot w i)))) → TooManyRegisters (partly A i r.0) (next A r.0 (here A i))
-      λ-to r = subst (λ v. TooManyRegisters (partly A i r.0) (next A r.0 v)) slot_here (subst (λ v. TooManyRegisters v (next A r.0 (slot w i))) (partly_is r.0) r.1.1)
+  -- where it stops, in document 01's numbering
+  stops_there : (e : Refusal) (c : ℕ) → Refused (once same_situation (slots w 0 count) (map (λ b. next A b (slot w i)) (bytes 0 c))) (next A c (slot w i)) e → Refused (partly A i c) (next A c (here A i)) e
+  stops_there e c r = subst (λ v. Refused (partly A i c) (next A c v) e) slot_here (subst (λ v. Refused v (next A c (slot w i)) e) (partly_is c) r)
 
-      λ-to2 : (r : (b : ℕ) × ((b < 256) × TooManySituations (once same_situation (slots w 0 count) (map (λ b. next A b (slot w i)) (bytes 0 b))) (next A b (slot w i)))) → TooManySituations (partly A i r.0) (next A r.0 (here A i))
-      λ-to2 r = subst (λ v. TooManySituations (partly A i r.0) (next A r.0 v)) slot_here (subst (λ v. TooManySituations v (next A r.0 (slot w i))) (partly_is r.0) r.1.1)
+  pub explore_stop : (e : Refusal) → Expands A N w w' count (slot w i) (Err e) → Explores A N w₀ w' (Err e)
+  explore_stop Registers x = record { size = x.size ∙ size; what = at_byte i x.what.0 in_first x.what.1.0 (stops_there Registers x.what.0 x.what.1.1) }
+  explore_stop Situations x = record { size = x.size ∙ size; what = at_byte i x.what.0 in_first x.what.1.0 (stops_there Situations x.what.0 x.what.1.1) }
+  explore_stop _ x = absurd x.what.1.1
 
-  pub explore_on : a.answer ≡ 0 → Kept N w' a.count × ((slots w' 0 a.count ≡ first A (i + 1)) × (count ≤ a.count))
-  explore_on e =
-      let f = x.fine e in
-      let n : length (slots w 0 count) ≤ length (once same_situation (slots w 0 count) (map (λ b. next A b (slot w i)) (bytes 0 256))) = once_longer (map (λ b. next A b (slot w i)) (bytes 0 256)) (slots w 0 count) in
-      (f.0, (f.1 ∙ partly_is 256 ∙ sym (first_more A i in_first), omega (arith, slots_length w 0 count, slots_length w' 0 a.count, ap length f.1)))
+  pub explore_on : (n : ℕ) → Expands A N w w' count (slot w i) (Ok n) → Kept N w' n × ((slots w' 0 n ≡ first A (i + 1)) × (count ≤ n))
+  explore_on n x =
+      let l : length (slots w 0 count) ≤ length (once same_situation (slots w 0 count) (map (λ b. next A b (slot w i)) (bytes 0 256))) = once_longer (map (λ b. next A b (slot w i)) (bytes 0 256)) (slots w 0 count) in
+      (x.what.0, (x.what.1 ∙ partly_is 256 ∙ sym (first_more A i in_first), omega (arith, slots_length w 0 count, slots_length w' 0 n, ap length x.what.1)))
 
-pub explored_all_of : (A : Net) (N : ℕ) (w₀ w : List ℕ) (count i : ℕ) → i ≡ count → length w ≡ length w₀ → Kept N w count → slots w 0 count ≡ first A i → Explores A N w₀ w (record { answer = 0; count = count })
+pub explored_all_of : (A : Net) (N : ℕ) (w₀ w : List ℕ) (count i : ℕ) → i ≡ count → length w ≡ length w₀ → Kept N w count → slots w 0 count ≡ first A i → Explores A N w₀ w (Ok count)
 explored_all_of A N w₀ w count i e size k h =
     let q = h ∙ ap (first A) e in
-    record {
-      size = size;
-      fine = λ _. (k, (q, ap length (sym q) ∙ slots_length w 0 count));
-      regs = λ e. absurd (omega arith);
-      sits = λ e. absurd (omega arith);
-      one_of = λ p q. absurd (p refl);
-    }
+    record { size = size; what = (k, (q, ap length (sym q) ∙ slots_length w 0 count)) }
 
-module _ (A : Net) (N : ℕ) (w v r : List ℕ) (t : ℕ) (g : Begun A N v r t) where
-  pub start_over : 64 < t → Explores A N w w (record { answer = 10; count = 0 })
-  start_over o =
-      record {
-        size = refl;
-        fine = λ e. absurd (omega arith);
-        regs = λ _. at_start (record { most = omega arith; needs = g.is.over o });
-        sits = λ e. absurd (omega arith);
-        one_of = λ p q. absurd (q refl);
-      }
+module _ (A : Net) (N : ℕ) (w v r : List ℕ) (a : Option ℕ) (g : Begun A N v r a) {t : ℕ} (fine : a ≡ Some t) (room : 65536 ≤ length w) (w' : List ℕ) (s : Stored w w' 0 (slot v 0) (get_or v 1 0)) where
+  first_is : Is (situation A []) v t
+  first_is = (subst (λ x. Begun A N v r x) fine g).what.0
 
-  module _ (o : t ≤ 64) (room : 65536 ≤ length w) (w' : List ℕ) (s : Stored w w' 0 (slot v 0) (get_or v 1 0)) where
-    pub start_kept : Kept N w' 1
-    start_kept = record { room = omega (arith, s.size); most = omega arith; holds = one }
-      where
-        first_slot : Holds N w' 0
-        first_slot =
-            record {
-              few = s.few;
-              count = s.count ∙ g.is.tally o ∙ g.is.count o ∙ ap (λ v. length (registers v)) (sym (s.here ∙ g.is.sit o));
-              small = omega (arith, g.is.count o, ap (λ v. length (registers v)) (s.here ∙ g.is.sit o));
-              below = subst (λ v. Below N v) (sym s.here) g.is.fit.below;
-            }
+  pub start_kept : Kept N w' 1
+  start_kept = record { room = omega (arith, s.size); most = omega arith; holds = one }
+    where
+      first_slot : Holds N w' 0
+      first_slot =
+          record {
+            few = s.few;
+            count = s.count ∙ first_is.tally ∙ first_is.count ∙ ap (λ v. length (registers v)) (sym (s.here ∙ first_is.sit));
+            small = omega (arith, first_is.few, first_is.count, ap (λ v. length (registers v)) (s.here ∙ first_is.sit));
+            below = subst (λ v. Below N v) (sym s.here) g.fit.below;
+          }
 
-        one : (j : ℕ) → j < 1 → Holds N w' j
-        one j b = let z : j ≡ 0 = omega arith in rw z first_slot
+      one : (j : ℕ) → j < 1 → Holds N w' j
+      one j b = let z : j ≡ 0 = omega arith in rw z first_slot
 
-    pub start_slots : slots w' 0 1 ≡ first A 0
-    unfolding slots explored
-    start_slots = ap (λ v. v ∷ []) (s.here ∙ g.is.sit o)
+  pub start_slots : slots w' 0 1 ≡ first A 0
+  unfolding slots explored
+  start_slots = ap (λ v. v ∷ []) (s.here ∙ first_is.sit)

@@ -1,7 +1,7 @@
 -- The ways through `visit`. Assumes nothing.
 use mathlib.Core.Path.{◌≡◌, refl, sym, ap, ◌∙◌, subst}
 use mathlib.Core.Logic.{◌⊎◌, inl, inr}
-use mathlib.Core.Bool.{true, false}
+use mathlib.Core.Bool.{Bool, true, false}
 use mathlib.Core.List.{List, [], ◌∷◌, ◌++◌, foldl}
 use Prim.Native.Nat.{ℕ, zero, suc, ◌+◌, ◌*◌, ◌-◌, ◌<◌}
 use native.Mathlib.Omega.{arith}
@@ -24,7 +24,7 @@ use Rattle.explore.specs.declared.Onward.TheVariants.{Stay, Both, Store}
 use Rattle.net.specs.Items.{net_at}
 use Rattle.explore.specs.Items.{Formed}
 use Rattle.explore.proofs.Reading.{net_inside}
-use Rattle.explore.proofs.Bits.{opt_some, has_last, has_else, ones_le, zeros_unmarked}
+use Rattle.explore.proofs.Bits.{opt_some, has_last, has_else, ones_le, none_marked}
 use Rattle.explore.proofs.Memory.{listed, no_threads}
 
 -- a way tells the record
@@ -67,7 +67,7 @@ module _ (k : ℕ) (A : Net) where
     marking_new zero h e = absurd (h refl)
     marking_new (suc n) h e = let p : n ≡ suc n - 1 = omega arith in rw e (ap (λ j. foldl (marking (tagged k) A j) (marked_with (tagged k) A m s) (on_quiet (tagged k) A s)) p)
 
-  module _ (M w : List ℕ) (c : ℕ) (e : Entry) (M' : List ℕ) (by : MarkedBy M e.on M') where
+  module _ (M : List Bool) (w : List ℕ) (c : ℕ) (e : Entry) (M' : List Bool) (by : MarkedBy M e.on M') where
     marks_noted : (m : Marked Tags) → Means M w c m → (r : ℕ) → r < 64 → has r (m.marks ++ (e.on ∷ [])) ≡ marked M' r
     marks_noted m h r b = go (Bool-cases (eqb r e.on))
       where
@@ -98,14 +98,14 @@ module _ (k : ℕ) (A : Net) where
   on_none e q = rw q
 
   -- the ways through `visit`, where it finds a new record
-  module _ (n : ℕ) (pos : n ≡ 0 → ⊥) (M w : List ℕ) (c : ℕ) (e : Entry) (M' : List ℕ) (in64 : e.on < 64) (new : marked M e.on ≡ false) (by : MarkedBy M e.on M') where
+  module _ (n : ℕ) (pos : n ≡ 0 → ⊥) (M : List Bool) (w : List ℕ) (c : ℕ) (e : Entry) (M' : List Bool) (in64 : e.on < 64) (new : marked M e.on ≡ false) (by : MarkedBy M e.on M') where
     expand : (m : Marked Tags) → Means M w c m
         → marking (tagged k) A n m (thread_of e) ≡ foldl (marking (tagged k) A (n - 1)) (marked_with (tagged k) A m (thread_of e)) (on_quiet (tagged k) A (thread_of e))
     unfolding thread_of
     expand m h = marking_new (thread_of e) m n pos (h.marks e.on in64 ∙ new)
 
     pub went_both : {x y : ℕ} → Both x y ≡ onward_of (rec A e.on) → (a b : Entry) → (a.on ≡ x) × (a.had ≡ e.had) → (b.on ≡ y) × (b.had ≡ e.had)
-        → (M1 w1 : List ℕ) (c1 : ℕ) (M2 w2 : List ℕ) (c2 : ℕ)
+        → (M1 : List Bool) (w1 : List ℕ) (c1 : ℕ) (M2 : List Bool) (w2 : List ℕ) (c2 : ℕ)
         → ((m : Marked Tags) → Means M' w c m → Means M1 w1 c1 (marking (tagged k) A (n - 1) m (thread_of a)))
         → ((m : Marked Tags) → Means M1 w1 c1 m → Means M2 w2 c2 (marking (tagged k) A (n - 1) m (thread_of b)))
         → (m : Marked Tags) → Means M w c m → Means M2 w2 c2 (marking (tagged k) A n m (thread_of e))
@@ -115,7 +115,7 @@ module _ (k : ℕ) (A : Net) where
         (ih2 _ (ih1 _ (noted_means M w c e M' by (rw q refl) m h)))
 
     pub went_store : {t x : ℕ} → k < 255 → Store t x ≡ onward_of (rec A e.on) → (a : Entry) → a.on ≡ x → a.had ≡ set e.had t k
-        → (M1 w1 : List ℕ) (c1 : ℕ)
+        → (M1 : List Bool) (w1 : List ℕ) (c1 : ℕ)
         → ((m : Marked Tags) → Means M' w c m → Means M1 w1 c1 (marking (tagged k) A (n - 1) m (thread_of a)))
         → (m : Marked Tags) → Means M w c m → Means M1 w1 c1 (marking (tagged k) A n m (thread_of e))
     went_store b o a p1 p2 M1 w1 c1 ih m h =
@@ -130,7 +130,7 @@ module _ (k : ℕ) (A : Net) where
         subst (λ v. Means M' w' (c + 1) v) (sym (expand m h ∙ ap (λ l. foldl (marking (tagged k) A (n - 1)) (marked_with (tagged k) A m (thread_of e)) l) (on_none e z.0)))
         (put_means M w c e M' by z.1 w' u m h)
 
-  module _ (n : ℕ) (M w : List ℕ) (c : ℕ) (e : Entry) (m : Marked Tags) (h : Means M w c m) where
+  module _ (n : ℕ) (M : List Bool) (w : List ℕ) (c : ℕ) (e : Entry) (m : Marked Tags) (h : Means M w c m) where
     pub went_none : n ≡ 0 → Means M w c (marking (tagged k) A n m (thread_of e))
     went_none z = subst (λ v. Means M w c v) (sym (marking_none (thread_of e) m z)) h
 
@@ -143,7 +143,7 @@ below_append N [] k a b = b
 below_append N (s ∷ l) k a b = (a.0, below_append N l k a.1 b)
 
 -- a mark is set, and the list stays; then e comes after it
-module _ (N : ℕ) (M w : List ℕ) (n r : ℕ) (M' : List ℕ) (h : Ready N M w n) (new : marked M r ≡ false) (by : MarkedBy M r M') where
+module _ (N : ℕ) (M : List Bool) (w : List ℕ) (n r : ℕ) (M' : List Bool) (h : Ready N M w n) (new : marked M r ≡ false) (by : MarkedBy M r M') where
   pub room_after : n < 64
   room_after = omega (arith, by.more new, by.room, h.room)
 
@@ -170,9 +170,9 @@ module _ {F offs : List ℕ} (w : Formed F offs) (r : ℕ) (b : r < length offs)
 
 -- nothing yet
 module _ (w : List ℕ) where
-  pub new_ready : (N : ℕ) → length w ≡ 578 → Ready N (replicate 64 0) w 0
+  pub new_ready : (N : ℕ) → length w ≡ 578 → Ready N (replicate 64 false) w 0
   unfolding count_of
-  new_ready N h = record { wide = refl; size = h; room = omega arith; few = omega (arith, ones_le (replicate 64 0)); below = rw (no_threads w 2) tt }
+  new_ready N h = record { wide = refl; size = h; room = omega arith; few = omega (arith, ones_le (replicate 64 false)); below = rw (no_threads w 2) tt }
 
-  pub new_means : Means (replicate 64 0) w 0 (record { marks = []; list = [] })
-  new_means = record { marks = λ r b. sym (zeros_unmarked 64 r); list = no_threads w 2 }
+  pub new_means : Means (replicate 64 false) w 0 (record { marks = []; list = [] })
+  new_means = record { marks = λ r b. sym (none_marked 64 r); list = no_threads w 2 }

@@ -1,23 +1,31 @@
 -- Situations in the work memory, byte by byte. Assumes nothing.
 use mathlib.Core.Path.{◌≡◌, refl, sym, ap, ◌∙◌}
 use mathlib.Core.Logic.{◌⊎◌, inl, inr}
-use mathlib.Core.Bool.{true, false}
+use mathlib.Core.Bool.{Bool, true, false}
 use mathlib.Core.List.{List, [], ◌∷◌, ◌++◌}
 use mathlib.Core.Option.{none}
-use Prim.Native.Nat.{ℕ, zero, suc, ◌+◌, ◌*◌, ◌≤◌, ◌<◌}
+use Prim.Native.Nat.{ℕ, zero, suc, ◌+◌, ◌*◌, ◌-◌, ◌/◌, ◌%◌, ◌≤◌, ◌<◌}
 use native.Mathlib.Omega.{arith}
 use native.Mathlib.Numerals.{add-one}
 use lib.Dec.{eqb}
-use lib.ListN.{length, get_or, take, set, length-set}
-use lib.Seq.{get_or-set_same, get_or-set_other, ext_get_or}
-use borrow.Author.Tests.{eqb-true, eqb-false}
+use lib.ListN.{length, get_or, take, drop, set, length-set, length-take}
+use lib.Seq.{get_or-set_same, get_or-set_other, get_or-take, get_or-drop, ext_get_or}
+use borrow.Author.Rules.{rules}
+use borrow.Rule.Slice.PartMut.{put_mid}
+use Rattle.std.specs.Prelude.{Some, None}
+use Rattle.std.specs.Bool.{Decides}
+use Rattle.std.specs.Cmp.Lexicographic.{pointwise}
+use Rattle.std.proofs.lemmas.List.{places}
+use Rattle.std.proofs.lemmas.Slice.Eq.{slice_eq-Decides}
+use Rattle.std.proofs.lemmas.Bool.Decides.{Decides-eqb, Decides-like, same_from_decides}
+use borrow.Author.Tests.{eqb-true}
 use Rattle.ground.proofs.Lists.{get_or_map}
 use Rattle.paths.specs.Search.{Thread}
 use Rattle.paths.specs.Registers.{Tags}
-use Rattle.paths.specs.Equal.{same_thread, same_situation}
+use Rattle.paths.specs.Equal.{same_situation}
 use Rattle.paths.specs.Numbering.{among}
 use Rattle.paths.proofs.Member.{Bool-cases}
-use Rattle.paths.proofs.Builder.{thread_eq, thread_refl, situation_test}
+use Rattle.paths.proofs.Builder.{situation_test}
 use Rattle.explore.specs.States.{opt, tags_of, thread_of}
 use Rattle.explore.specs.Lists.{position}
 use Rattle.explore.specs.Slots.{row, thread_at, threads_at, slot, slots, PutAt, Stored, Placed}
@@ -66,54 +74,48 @@ pub thread_at_is : (w : List ℕ) (at : ℕ) (e : Entry) → length e.had ≡ 8 
 unfolding thread_at thread_of
 thread_at_is w at e n a h = let b = row_is w e.had (at + 1) 8 n h in λ i. record { on = a i; had = tags_of (b i) }
 
--- ---- `put_entry`
+-- ---- a part that is written in one piece
 
-pub wrote : (w₀ w : List ℕ) (at : ℕ) (e : Entry) (t : ℕ) → at + 9 ≤ length w₀ → length e.had ≡ 8 → 8 ≤ t → t ≤ 8 → length w ≡ length (set w₀ at e.on)
-    → ((k : ℕ) → k < t → get_or w (at + 1 + k) 0 ≡ get_or e.had k 0)
-    → ((k : ℕ) → (k < at + 1) ⊎ (at + 1 + t ≤ k) → get_or w k 0 ≡ get_or (set w₀ at e.on) k 0)
-    → PutAt w₀ w at e
-wrote w₀ w at e t room n t1 t2 size h g =
+module _ (w ys l : List ℕ) (a k n : ℕ) (is : ys ≡ l) (same : k ≡ n) (size : length l ≡ n) (room : a + n ≤ length w) where
+  pub part_length : length (put_mid a k w ys) ≡ length w
+  part_length = rw (is, same) (search (rules, places))
+
+  pub part_at : (i : ℕ) → i < n → get_or (put_mid a k w ys) (a + i) 0 ≡ get_or l i 0
+  part_at i h = rw (is, same) (search (rules, places))
+
+  pub part_else : (i : ℕ) → (i < a) ⊎ (a + n ≤ i) → get_or (put_mid a k w ys) i 0 ≡ get_or w i 0
+  part_else i (inl h) = rw (is, same) (search (rules, places))
+  part_else i (inr h) = rw (is, same) (search (rules, places))
+
+-- the entry at a place, as `put_entry` leaves it
+pub put_there : (w ys : List ℕ) (at k : ℕ) (e : Entry) → ys ≡ e.had → k ≡ 8 → length e.had ≡ 8 → at + 9 ≤ length w → PutAt w (put_mid (at + 1) k (set w at e.on) ys) at e
+put_there w ys at k e is same size room =
     record {
-      size = size ∙ length-set w₀ at e.on;
-      here = thread_at_is w at e n (g at (inl (omega arith)) ∙ get_or-set_same w₀ at e.on 0 (omega arith)) (λ k b. h k (omega arith));
-      else = λ k b. g k (by k b) ∙ get_or-set_other w₀ at k e.on 0 (off k b);
+      size = part_length v ys e.had (at + 1) k 8 is same size long ∙ length-set w at e.on;
+      here = thread_at_is _ at e size (part_else v ys e.had (at + 1) k 8 is same size long at (inl (omega arith)) ∙ get_or-set_same w at e.on 0 (omega arith)) (part_at v ys e.had (at + 1) k 8 is same size long);
+      else = λ i b. part_else v ys e.had (at + 1) k 8 is same size long i (by i b) ∙ get_or-set_other w at i e.on 0 (off i b);
     }
   where
-    by : (k : ℕ) → (k < at) ⊎ (at + 9 ≤ k) → (k < at + 1) ⊎ (at + 1 + t ≤ k)
-    by k (inl b) = inl (omega arith)
-    by k (inr b) = inr (omega arith)
+    v : List ℕ
+    v = set w at e.on
 
-    off : (k : ℕ) → (k < at) ⊎ (at + 9 ≤ k) → k ≡ at → ⊥
-    off k (inl b) z = omega arith
-    off k (inr b) z = omega arith
+    long : at + 1 + 8 ≤ length v
+    long = omega (arith, length-set w at e.on)
 
--- one byte more
-pub wrote_more : (w : List ℕ) (a t : ℕ) (had : List ℕ) → a + t < length w
-    → ((k : ℕ) → k < t → get_or w (a + k) 0 ≡ get_or had k 0)
-    → (k : ℕ) → k < t + 1 → get_or (set w (a + t) (get_or had t 0)) (a + k) 0 ≡ get_or had k 0
-wrote_more w a t had b h k c = by (Bool-cases (eqb k t))
-  where
-    by : (eqb k t ≡ true) ⊎ (eqb k t ≡ false) → get_or (set w (a + t) (get_or had t 0)) (a + k) 0 ≡ get_or had k 0
-    by (inl e) = let q = eqb-true k t e in rw q (get_or-set_same w (a + t) (get_or had t 0) 0 b)
-    by (inr e) = let q = eqb-false k t e in get_or-set_other w (a + t) (a + k) (get_or had t 0) 0 (λ z. q (omega arith)) ∙ h k (lt_of_ne k t c q)
-      where
-        lt_of_ne : (k t : ℕ) → k < t + 1 → (k ≡ t → ⊥) → k < t
-        lt_of_ne k t a q = omega arith
+    by : (i : ℕ) → (i < at) ⊎ (at + 9 ≤ i) → (i < at + 1) ⊎ (at + 1 + 8 ≤ i)
+    by i (inl b) = inl (omega arith)
+    by i (inr b) = inr (omega arith)
 
-pub else_more : (w w₀ : List ℕ) (a t v : ℕ) → ((k : ℕ) → (k < a) ⊎ (a + t ≤ k) → get_or w k 0 ≡ get_or w₀ k 0) → (k : ℕ) → (k < a) ⊎ (a + (t + 1) ≤ k) → get_or (set w (a + t) v) k 0 ≡ get_or w₀ k 0
-else_more w w₀ a t v h k (inl b) = get_or-set_other w (a + t) k v 0 (λ z. omega arith) ∙ h k (inl b)
-else_more w w₀ a t v h k (inr b) = get_or-set_other w (a + t) k v 0 (λ z. omega arith) ∙ h k (inr (omega arith))
+    off : (i : ℕ) → (i < at) ⊎ (at + 9 ≤ i) → i ≡ at → ⊥
+    off i (inl b) z = omega arith
+    off i (inr b) z = omega arith
 
--- ---- `entry_at`
+-- and as `entry_at` reads it
+pub read_there : (w ys : List ℕ) (at k : ℕ) → ys ≡ take k (drop (at + 1) w) → k ≡ 8 → at + 9 ≤ length w → thread_of (record { on = get_or w at 0; had = ys }) ≡ thread_at w at
+read_there w ys at k is same room =
+    sym (thread_at_is w at (record { on = get_or w at 0; had = ys }) (rw (is, same) (search (rules, places))) refl (λ i h. rw (is, same) (search (rules, places))))
 
-pub read_more : (w had : List ℕ) (a t : ℕ) → t < length had → ((k : ℕ) → k < t → get_or w (a + k) 0 ≡ get_or had k 0) → (k : ℕ) → k < t + 1 → get_or w (a + k) 0 ≡ get_or (set had t (get_or w (a + t) 0)) k 0
-read_more w had a t b h k c = by (Bool-cases (eqb k t))
-  where
-    by : (eqb k t ≡ true) ⊎ (eqb k t ≡ false) → get_or w (a + k) 0 ≡ get_or (set had t (get_or w (a + t) 0)) k 0
-    by (inl e) = let q = eqb-true k t e in rw q (sym (get_or-set_same had t (get_or w (a + t) 0) 0 b))
-    by (inr e) = let q = eqb-false k t e in h k (omega arith) ∙ sym (get_or-set_other had t k (get_or w (a + t) 0) 0 q)
-
--- ---- `same_entry`
+-- ---- the bytes of an entry, from what it means
 
 opt_injective : (a b : ℕ) → opt a ≡ opt b → a ≡ b
 opt_injective a b = by (Bool-cases (eqb a 255)) (Bool-cases (eqb b 255))
@@ -124,36 +126,28 @@ opt_injective a b = by (Bool-cases (eqb a 255)) (Bool-cases (eqb b 255))
     by (inr p) (inl q) e = let z : ◌≡◌ {A = ℕ} 0 1 = cc (rw (p, q) at e) in absurd (omega arith)
     by (inr p) (inr q) e = let f = rw (p, q) at e in cc
 
-differ : (s t : Thread Tags) → (s ≡ t → ⊥) → false ≡ same_thread s t
-differ s t h = by (Bool-cases (same_thread s t))
-  where
-    by : (same_thread s t ≡ true) ⊎ (same_thread s t ≡ false) → false ≡ same_thread s t
-    by (inl e) = absurd (h (thread_eq s t e))
-    by (inr e) = sym e
+module _ (w l : List ℕ) (a b : ℕ) (e : thread_at w a ≡ thread_at l b) where
+  byte_on : get_or w a 0 ≡ get_or l b 0
+  unfolding thread_at
+  byte_on = ap (λ s. s.on) e
 
-module _ (w : List ℕ) (at : ℕ) (e : Entry) where
-  pub differ_on : (e.on ≡ get_or w at 0 → ⊥) → false ≡ same_thread (thread_of e) (thread_at w at)
-  unfolding thread_of thread_at
-  differ_on h = differ (thread_of e) (thread_at w at) (λ q. h (ap (λ s. s.on) q))
+  byte_had : (t : ℕ) → t < 8 → get_or w (a + 1 + t) 0 ≡ get_or l (b + 1 + t) 0
+  unfolding thread_at
+  byte_had t h =
+      sym (row_at w (a + 1) 8 t h)
+      ∙ opt_injective _ _
+      (sym (get_or_map opt (row w (a + 1) 8) t 0 none (omega (arith, row_length w (a + 1) 8))) ∙ ap (λ s. get_or s.had t none) e ∙ get_or_map opt (row l (b + 1) 8) t 0 none (omega (arith, row_length l (b + 1) 8)))
+      ∙ row_at l (b + 1) 8 t h
 
-  pub differ_had : length e.had ≡ 8 → (t : ℕ) → t < 8 → (get_or e.had t 0 ≡ get_or w (at + 1 + t) 0 → ⊥) → false ≡ same_thread (thread_of e) (thread_at w at)
-  unfolding thread_of thread_at
-  differ_had n t b h = differ (thread_of e) (thread_at w at) (λ q. h (same_byte (ap (λ s. get_or s.had t none) q)))
-    where
-      same_byte : get_or (tags_of e.had) t none ≡ get_or (tags_of (row w (at + 1) 8)) t none → get_or e.had t 0 ≡ get_or w (at + 1 + t) 0
-      same_byte q =
-          opt_injective _ _
-          (sym (get_or_map opt e.had t 0 none (omega arith)) ∙ q ∙ get_or_map opt (row w (at + 1) 8) t 0 none (omega (arith, row_length w (at + 1) 8)) ∙ ap opt (row_at w (at + 1) 8 t b))
-
-  pub same_all : length e.had ≡ 8 → e.on ≡ get_or w at 0 → (t : ℕ) → 8 ≤ t → ((k : ℕ) → k < t → get_or w (at + 1 + k) 0 ≡ get_or e.had k 0) → true ≡ same_thread (thread_of e) (thread_at w at)
-  same_all n o t b h = sym (ap (λ v. same_thread (thread_of e) v) (thread_at_is w at e n (sym o) (λ k c. h k (omega arith))) ∙ thread_refl (thread_of e))
-
-pub eq_more : (w had : List ℕ) (at t : ℕ) → ((k : ℕ) → k < t → get_or w (at + 1 + k) 0 ≡ get_or had k 0) → get_or had t 0 ≡ get_or w (at + 1 + t) 0 → (k : ℕ) → k < t + 1 → get_or w (at + 1 + k) 0 ≡ get_or had k 0
-eq_more w had at t h e k c = by (Bool-cases (eqb k t))
-  where
-    by : (eqb k t ≡ true) ⊎ (eqb k t ≡ false) → get_or w (at + 1 + k) 0 ≡ get_or had k 0
-    by (inl z) = let q = eqb-true k t z in rw q (sym e)
-    by (inr z) = let q = eqb-false k t z in h k (omega arith)
+  thread_bytes : (r : ℕ) → r < 9 → get_or w (a + r) 0 ≡ get_or l (b + r) 0
+  thread_bytes zero h =
+      let x : a + 0 ≡ a = omega arith in
+      let y : b + 0 ≡ b = omega arith in
+      ap (λ j. get_or w j 0) x ∙ byte_on ∙ ap (λ j. get_or l j 0) (sym y)
+  thread_bytes (suc t) h =
+      let x : a + suc t ≡ a + 1 + t = omega arith in
+      let y : b + suc t ≡ b + 1 + t = omega arith in
+      ap (λ j. get_or w j 0) x ∙ byte_had t (omega arith) ∙ ap (λ j. get_or l j 0) (sym y)
 
 -- ---- lists of threads
 
@@ -217,42 +211,52 @@ slot_first w n h =
 nobody : Thread Tags
 nobody = record { on = 0; had = [] }
 
--- the same threads
+-- the same threads, the same bytes
+module _ (w l : List ℕ) (a b n : ℕ) where
+  threads_bytes : threads_at w a n ≡ threads_at l b n → (k : ℕ) → k < 9 * n → get_or w (a + k) 0 ≡ get_or l (b + k) 0
+  threads_bytes e k h =
+      let i : k / 9 < n = omega arith in
+      let x : a + 9 * (k / 9) + k % 9 ≡ a + k = omega arith in
+      let y : b + 9 * (k / 9) + k % 9 ≡ b + k = omega arith in
+      let at : thread_at w (a + 9 * (k / 9)) ≡ thread_at l (b + 9 * (k / 9)) =
+      sym (threads_at_at w a n (k / 9) nobody i) ∙ ap (λ v. get_or v (k / 9) nobody) e ∙ threads_at_at l b n (k / 9) nobody i in
+      ap (λ j. get_or w j 0) (sym x) ∙ thread_bytes w l (a + 9 * (k / 9)) (b + 9 * (k / 9)) at (k % 9) (omega arith) ∙ ap (λ j. get_or l j 0) y
+
+  module _ (in_w : a + 9 * n ≤ length w) (in_l : b + 9 * n ≤ length l) where
+    pub threads_Decides : (r : Bool) → r ≡ pointwise eqb (take (9 * n) (drop a w)) (take (9 * n) (drop b l)) → Decides r (threads_at w a n ≡ threads_at l b n)
+    threads_Decides r e =
+        Decides-like r
+        (λ q. threads_at_moved w l a b n (λ i h. sym (taken w a i h) ∙ ap (λ v. get_or v i 0) q ∙ taken l b i h))
+        (λ q. ext_get_or 0 _ _ (search (rules, places)) (λ i h. (let g : i < 9 * n = omega (arith, length-take (9 * n) (drop a w)) in taken w a i g ∙ threads_bytes q i g ∙ sym (taken l b i g))))
+        (slice_eq-Decides Decides-eqb _ _ r e)
+      where
+        taken : (v : List ℕ) (c i : ℕ) → i < 9 * n → get_or (take (9 * n) (drop c v)) i 0 ≡ get_or v (c + i) 0
+        taken v c i h = get_or-take (9 * n) (drop c v) i 0 h ∙ get_or-drop c v i 0
+
+-- ---- `same`
+
 module _ (l w : List ℕ) (j : ℕ) where
-  pub slot_is : get_or w (578 * j) 0 ≡ get_or l 0 0 → ((k : ℕ) → k < get_or l 0 0 → thread_at l (2 + 9 * k) ≡ thread_at w (578 * j + 2 + 9 * k)) → slot l 0 ≡ slot w j
-  unfolding slot
-  slot_is e h =
-      ext_get_or nobody (threads_at l 2 (get_or l 0 0)) (threads_at w (578 * j + 2) (get_or w (578 * j) 0)) (threads_at_length l 2 (get_or l 0 0) ∙ sym e ∙ sym (threads_at_length w (578 * j + 2) (get_or w (578 * j) 0)))
-      (λ k b. let n = threads_at_length l 2 (get_or l 0 0) in threads_at_at l 2 (get_or l 0 0) k nobody (omega arith) ∙ h k (omega arith) ∙ sym (threads_at_at w (578 * j + 2) (get_or w (578 * j) 0) k nobody (omega arith)))
-
-  unlike : (slot l 0 ≡ slot w j → ⊥) → false ≡ same_situation (slot l 0) (slot w j)
-  unlike h = by (Bool-cases (same_situation (slot l 0) (slot w j)))
-    where
-      by : (same_situation (slot l 0) (slot w j) ≡ true) ⊎ (same_situation (slot l 0) (slot w j) ≡ false) → false ≡ same_situation (slot l 0) (slot w j)
-      by (inl e) = absurd (h ((situation_test (slot l 0) (slot w j)).0 e))
-      by (inr e) = sym e
-
   pub other_count : (get_or w (578 * j) 0 ≡ get_or l 0 0 → ⊥) → false ≡ same_situation (slot l 0) (slot w j)
   unfolding slot
-  other_count h = unlike (λ e. h (sym (threads_at_length w (578 * j + 2) (get_or w (578 * j) 0)) ∙ ap length (sym e) ∙ threads_at_length l 2 (get_or l 0 0)))
-
-  pub other_entry : get_or w (578 * j) 0 ≡ get_or l 0 0 → (i : ℕ) → i < get_or l 0 0 → (e : Entry) → thread_of e ≡ thread_at l (2 + 9 * i) → same_thread (thread_of e) (thread_at w (578 * j + 2 + 9 * i)) ≡ false → false ≡ same_situation (slot l 0) (slot w j)
-  unfolding slot
-  other_entry c i b d q h = unlike (λ e. no (q ∙ sym (threads_at_at l 2 (get_or l 0 0) i nobody b) ∙ ap (λ v. get_or v i nobody) e ∙ threads_at_at w (578 * j + 2) (get_or w (578 * j) 0) i nobody (omega arith)))
+  other_count h = by (Bool-cases (same_situation (slot l 0) (slot w j)))
     where
-      no : thread_of d ≡ thread_at w (578 * j + 2 + 9 * i) → ⊥
-      no e = let q = thread_refl (thread_at w (578 * j + 2 + 9 * i)) in let z : ◌≡◌ {A = ℕ} 0 1 = cc (ap (λ v. same_thread v (thread_at w (578 * j + 2 + 9 * i))) e) in omega arith
+      by : (same_situation (slot l 0) (slot w j) ≡ true) ⊎ (same_situation (slot l 0) (slot w j) ≡ false) → false ≡ same_situation (slot l 0) (slot w j)
+      by (inl e) = absurd (h (sym (threads_at_length w (578 * j + 2) (get_or w (578 * j) 0)) ∙ ap length (sym ((situation_test (slot l 0) (slot w j)).0 e)) ∙ threads_at_length l 2 (get_or l 0 0)))
+      by (inr e) = sym e
 
-  pub all_same : get_or w (578 * j) 0 ≡ get_or l 0 0 → (i : ℕ) → get_or l 0 0 ≤ i → ((k : ℕ) → k < i → thread_at l (2 + 9 * k) ≡ thread_at w (578 * j + 2 + 9 * k)) → true ≡ same_situation (slot l 0) (slot w j)
-  all_same c i b h = sym ((situation_test (slot l 0) (slot w j)).1 (slot_is c (λ k d. h k (omega arith))))
-
-pub same_more : (l w : List ℕ) (a i : ℕ) → ((k : ℕ) → k < i → thread_at l (2 + 9 * k) ≡ thread_at w (a + 9 * k)) → (e : Entry) → thread_of e ≡ thread_at l (2 + 9 * i) → true ≡ same_thread (thread_of e) (thread_at w (a + 9 * i))
-    → (k : ℕ) → k < i + 1 → thread_at l (2 + 9 * k) ≡ thread_at w (a + 9 * k)
-same_more l w a i h d p e k c = by (Bool-cases (eqb k i))
-  where
-    by : (eqb k i ≡ true) ⊎ (eqb k i ≡ false) → thread_at l (2 + 9 * k) ≡ thread_at w (a + 9 * k)
-    by (inl z) = let q = eqb-true k i z in rw q (sym p ∙ thread_eq _ _ (sym e))
-    by (inr z) = let q = eqb-false k i z in h k (omega arith)
+  -- as many entries, and the same bytes
+  pub same_bytes : (n : ℕ) → n ≡ get_or l 0 0 → get_or w (578 * j) 0 ≡ get_or l 0 0 → get_or l 0 0 ≤ 64 → length l ≡ 578 → 578 * j + 578 ≤ length w
+      → pointwise eqb (take (578 * j + (2 + 9 * n) - (578 * j + 2)) (drop (578 * j + 2) w)) (take (2 + 9 * n - 2) (drop 2 l)) ≡ same_situation (slot l 0) (slot w j)
+  unfolding slot
+  same_bytes n is count few size room =
+      let a : 578 * j + (2 + 9 * n) - (578 * j + 2) ≡ 9 * n = omega arith in
+      let b : 2 + 9 * n - 2 ≡ 9 * n = omega arith in
+      let there : threads_at w (578 * j + 2) n ≡ slot w j = ap (threads_at w (578 * j + 2)) (is ∙ sym count) in
+      let here : threads_at l 2 n ≡ slot l 0 = ap (threads_at l 2) is in
+      rw (a, b)
+      (same_from_decides _ (same_situation (slot l 0) (slot w j))
+      (Decides-like _ (λ t. sym here ∙ sym t ∙ there) (λ t. there ∙ sym t ∙ sym here) (threads_Decides w l (578 * j + 2) 2 n (omega arith) (omega arith) _ refl))
+      (situation_test (slot l 0) (slot w j)))
 
 -- ---- `store`, `load`
 
@@ -263,17 +267,16 @@ slot_moved w l j few h =
     let n : get_or w (578 * j) 0 ≡ get_or l 0 0 = ap (λ v. get_or w v 0) (sym x) ∙ h 0 (omega arith) in
     (n, ap (threads_at w (578 * j + 2)) n ∙ threads_at_moved w l (578 * j + 2) 2 (get_or l 0 0) (λ i c. (let y : 578 * j + 2 + i ≡ 578 * j + (2 + i) = omega arith in ap (λ v. get_or w v 0) y) ∙ h (2 + i) (omega arith)))
 
-pub stored : (l : List ℕ) → get_or l 0 0 ≤ 64 → (w₀ w : List ℕ) (j k : ℕ) → k ≡ 578 → length w ≡ length w₀
-    → ((i : ℕ) → i < k → get_or w (578 * j + i) 0 ≡ get_or l i 0)
-    → ((i : ℕ) → (i < 578 * j) ⊎ (578 * j + k ≤ i) → get_or w i 0 ≡ get_or w₀ i 0)
-    → Stored w₀ w j (slot l 0) (get_or l 1 0)
-stored l few w₀ w j k z size h g =
-    let m = slot_moved w l j few (λ i c. h i (omega arith)) in
-    record { size = size; few = omega (arith, m.0); here = m.1; count = h 1 (omega arith); else = λ i d. g i (by i d) }
-  where
-    by : (i : ℕ) → (i < 578 * j) ⊎ (578 * j + 578 ≤ i) → (i < 578 * j) ⊎ (578 * j + k ≤ i)
-    by i (inl b) = inl b
-    by i (inr b) = inr (omega arith)
+pub stored : (w ys l : List ℕ) (j k : ℕ) → ys ≡ l → k ≡ 578 → length l ≡ 578 → 578 * j + 578 ≤ length w → get_or l 0 0 ≤ 64 → Stored w (put_mid (578 * j) k w ys) j (slot l 0) (get_or l 1 0)
+stored w ys l j k is same size room few =
+    let m = slot_moved (put_mid (578 * j) k w ys) l j few (part_at w ys l (578 * j) k 578 is same size room) in
+    record {
+      size = part_length w ys l (578 * j) k 578 is same size room;
+      few = omega (arith, m.0);
+      here = m.1;
+      count = part_at w ys l (578 * j) k 578 is same size room 1 (omega arith);
+      else = part_else w ys l (578 * j) k 578 is same size room;
+    }
 
 -- ---- `place`
 
@@ -307,39 +310,16 @@ position_at w l (suc n) j (suc i) b h e =
     rw (ap (λ v. same_situation l (slot w v)) (sym z) ∙ h 0 (omega arith))
     (ap suc (position_at w l n (j + 1) i (omega arith) (λ k c. ap (λ v. same_situation l (slot w v)) (y k) ∙ h (suc k) (omega arith)) (ap (λ v. same_situation l (slot w v)) (y i) ∙ e)))
 
-position_none : (w : List ℕ) (l : List (Thread Tags)) (n j : ℕ) → ((k : ℕ) → k < n → same_situation l (slot w (j + k)) ≡ false) → position same_situation l (slots w j n) ≡ n
-unfolding slots
-position_none w l zero j h = refl
-position_none w l (suc n) j h =
-    let z : j + 0 ≡ j = omega arith in
-    let y : (k : ℕ) → j + 1 + k ≡ j + suc k = λ k. omega arith in
-    rw (ap (λ v. same_situation l (slot w v)) (sym z) ∙ h 0 (omega arith))
-    (ap suc (position_none w l n (j + 1) (λ k c. ap (λ v. same_situation l (slot w v)) (y k) ∙ h (suc k) (omega arith))))
-
 none_add : (j : ℕ) → 0 + j ≡ j
 none_add j = omega arith
 
-pub placed_at : (w : List ℕ) (count : ℕ) (l : List (Thread Tags)) (j : ℕ) → j < count → ((k : ℕ) → k < j → same_situation l (slot w k) ≡ false) → same_situation l (slot w j) ≡ true → Placed w count l j
+pub placed_at : (w : List ℕ) (count : ℕ) (l : List (Thread Tags)) (j : ℕ) → j < count → ((k : ℕ) → k < j → same_situation l (slot w k) ≡ false) → same_situation l (slot w j) ≡ true → Placed w count l (Some j)
 placed_at w count l j b n h =
     record {
-      within = omega arith;
-      found = λ _. (among_one l w 0 count j b (ap (λ v. same_situation l (slot w v)) (none_add j) ∙ h), h);
-      missing = λ e. absurd (omega arith);
+      within = b;
+      found = (among_one l w 0 count j b (ap (λ v. same_situation l (slot w v)) (none_add j) ∙ h), h);
       first = sym (position_at w l count 0 j b (λ k c. ap (λ v. same_situation l (slot w v)) (none_add k) ∙ n k c) (ap (λ v. same_situation l (slot w v)) (none_add j) ∙ h));
     }
 
-pub placed_none : (w : List ℕ) (count : ℕ) (l : List (Thread Tags)) (j : ℕ) → count ≤ j → ((k : ℕ) → k < j → same_situation l (slot w k) ≡ false) → Placed w count l count
-placed_none w count l j b h =
-    record {
-      within = omega arith;
-      found = λ c. absurd (omega arith);
-      missing = λ _. among_none l w 0 count (λ k c. ap (λ v. same_situation l (slot w v)) (none_add k) ∙ h k (omega arith));
-      first = sym (position_none w l count 0 (λ k c. ap (λ v. same_situation l (slot w v)) (none_add k) ∙ h k (omega arith)));
-    }
-
-pub none_more : (w : List ℕ) (l : List (Thread Tags)) (j : ℕ) → ((k : ℕ) → k < j → same_situation l (slot w k) ≡ false) → same_situation l (slot w j) ≡ false → (k : ℕ) → k < j + 1 → same_situation l (slot w k) ≡ false
-none_more w l j h e k c = by (Bool-cases (eqb k j))
-  where
-    by : (eqb k j ≡ true) ⊎ (eqb k j ≡ false) → same_situation l (slot w k) ≡ false
-    by (inl z) = let q = eqb-true k j z in rw q e
-    by (inr z) = let q = eqb-false k j z in h k (omega arith)
+pub placed_none : (w : List ℕ) (count : ℕ) (l : List (Thread Tags)) → ((k : ℕ) → k < count → same_situation l (slot w k) ≡ false) → Placed w count l None
+placed_none w count l h = among_none l w 0 count (λ k c. ap (λ v. same_situation l (slot w v)) (none_add k) ∙ h k c)

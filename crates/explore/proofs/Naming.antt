@@ -11,6 +11,9 @@ use lib.Dec.{eqb}
 use lib.ListN.{length, get_or, take, drop, set, replicate, length-map, length-set, length-append, drop_of_length-le}
 use lib.Seq.{take-suc, drop-cons, length-take-le, set_at, get_or-set_same, get_or-set_other}
 use borrow.Author.Tests.{eq-eqb, ne_eqb}
+use Rattle.std.specs.Prelude as std
+use Rattle.std.specs.Prelude.{Some, None, MatchOption, is_some, unwrap_or}
+use Rattle.std.proofs.lemmas.Bool.{true≢false, false≢true}
 use Rattle.ground.proofs.Lists.{map_set, get_or_map, each_append}
 use Rattle.paths.specs.Search.{Thread}
 use Rattle.net.specs.Rec.{Net}
@@ -22,7 +25,7 @@ use Rattle.paths.proofs.Member.{Bool-cases}
 use Rattle.explore.specs.States.{opt, tags_of, thread_of, Below}
 use Rattle.explore.specs.Slots.{thread_at, threads_at, slot, PutAt, Fit}
 use Rattle.explore.specs.Visit.{Means}
-use Rattle.explore.specs.Keys.{key_of, keys_at, Gathers, names, Named, Numbers, Is, Stepped, Begun}
+use Rattle.explore.specs.Keys.{key_of, keys_at, Finds, Gathers, names, Named, Numbered, Numbers, Is, Stepped, Begun}
 use Rattle.explore.specs.declared.Entry.{Entry}
 use Rattle.explore.proofs.Bits.{foldl_append, opt_none, opt_some}
 use Rattle.explore.proofs.Memory.{threads_snoc, no_threads, threads_at_length, threads_at_at, take_threads, threads_at_same, thread_at_moved, listed}
@@ -103,10 +106,11 @@ module _ (r : List ℕ) (n t o i : ℕ) (so_far : index (t, o) (keys_at r 0 n) �
   here : i < n → drop i (keys_at r 0 n) ≡ key_of r i ∷ drop (suc i) (keys_at r 0 n)
   here b = let l = keys_length r 0 n in let z : 0 + i ≡ i = omega arith in drop-cons (keys_at r 0 n) i (0, 0) (omega arith) ∙ ap (λ v. v ∷ drop (suc i) (keys_at r 0 n)) (keys_at_at r 0 n i (0, 0) b ∙ ap (key_of r) z)
 
-  pub find_hit : i < n → get_or r (2 * i) 0 ≡ t → get_or r (2 * i + 1) 0 ≡ o → i ≡ index (t, o) (keys_at r 0 n)
+  pub find_hit : i < n → get_or r (2 * i) 0 ≡ t → get_or r (2 * i + 1) 0 ≡ o → Finds (keys_at r 0 n) (t, o) (Some i)
   find_hit b e1 e2 =
+      let l = keys_length r 0 n in
       let q : index (t, o) (drop i (keys_at r 0 n)) ≡ 0 = ap (index (t, o)) (here b) ∙ rw (eq-eqb t _ (sym e1), eq-eqb o _ (sym e2)) in
-      omega arith
+      (omega arith, omega arith)
 
   pub find_miss : i < n → (get_or r (2 * i) 0 ≡ t → get_or r (2 * i + 1) 0 ≡ o → ⊥) → index (t, o) (keys_at r 0 n) ≡ (i + 1) + index (t, o) (drop (i + 1) (keys_at r 0 n))
   find_miss b h =
@@ -118,11 +122,13 @@ module _ (r : List ℕ) (n t o i : ℕ) (so_far : index (t, o) (keys_at r 0 n) �
       not_here (inl e) = rw (e, ne_eqb o (get_or r (2 * i + 1) 0) (λ p. h (sym (borrow.Author.Tests.eqb-true t (get_or r (2 * i) 0) e)) (sym p)))
       not_here (inr e) = rw e
 
-  pub find_end : n ≤ i → i ≤ n → n ≡ index (t, o) (keys_at r 0 n)
-  find_end h g =
-      let l = keys_length r 0 n in
-      let q : index (t, o) (drop i (keys_at r 0 n)) ≡ 0 = ap (index (t, o)) (drop_of_length-le (keys_at r 0 n) {i = i} (omega arith)) in
-      omega arith
+  pub find_end : n ≤ i → Finds (keys_at r 0 n) (t, o) None
+  find_end h = let l = keys_length r 0 n in omega arith
+
+-- the number that was found, n for none
+pub found_here : (r : List ℕ) (n : ℕ) → n ≤ 64 → (t o : ℕ) (a : std.Option ℕ) → Finds (keys_at r 0 n) (t, o) a → (i : ℕ) → i ≡ unwrap_or a n → (i ≡ index (t, o) (keys_at r 0 n)) × (i < 255)
+found_here r n few t o None f i e = let l = keys_length r 0 n in let q = index_le (t, o) (keys_at r 0 n) in (omega arith, omega arith)
+found_here r n few t o (Some k) f i e = let l = keys_length r 0 n in (e ∙ f.1, omega (arith, f.0))
 
 -- ---- `add`
 
@@ -140,41 +146,41 @@ keys_with r n t o b =
     second : get_or (set (set r (2 * n) t) (2 * n + 1) o) (2 * n + 1) 0 ≡ o
     second = get_or-set_same (set r (2 * n) t) (2 * n + 1) o 0 (omega (arith, length-set r (2 * n) t))
 
-module _ (r : List ℕ) (n t o : ℕ) (size : length r ≡ 128) (few : n ≤ 64) (i : ℕ) (found : i ≡ index (t, o) (keys_at r 0 n)) where
-  pub add_old : i < n → Gathers (keys_at r 0 n) ((t, o) ∷ []) r n
-  add_old h = record { size = size; fine = λ _. sym (note_known (t, o) (keys_at r 0 n) (omega (arith, keys_length r 0 n))); over = λ e. absurd (omega arith) }
+module _ (r : List ℕ) (n t o : ℕ) (size : length r ≡ 128) (few : n ≤ 64) where
+  pub add_old : (a : std.Option ℕ) → Finds (keys_at r 0 n) (t, o) a → is_some a ≡ true → Gathers (keys_at r 0 n) ((t, o) ∷ []) r (Some n)
+  add_old None f e = absurd (false≢true e)
+  add_old (Some i) f e = record { size = size; count = (few, sym (note_known (t, o) (keys_at r 0 n) (omega (arith, f.0, f.1)))) }
 
-  pub add_full : n ≤ i → 64 ≤ n → Gathers (keys_at r 0 n) ((t, o) ∷ []) r 65
-  add_full h g =
-      let l = keys_length r 0 n in
-      record { size = size; fine = λ e. absurd (omega arith); over = λ _. omega (arith, ap length (note_new (t, o) (keys_at r 0 n) (omega arith)), length-append (keys_at r 0 n) ((t, o) ∷ [])) }
+  module _ (a : std.Option ℕ) (f : Finds (keys_at r 0 n) (t, o) a) (e : is_some a ≡ false) where
+    new : note (keys_at r 0 n) (t, o) ≡ keys_at r 0 n ++ ((t, o) ∷ [])
+    new = by a f e
+      where
+        by : (a : std.Option ℕ) → Finds (keys_at r 0 n) (t, o) a → is_some a ≡ false → note (keys_at r 0 n) (t, o) ≡ keys_at r 0 n ++ ((t, o) ∷ [])
+        by None f e = note_new (t, o) (keys_at r 0 n) f
+        by (Some i) f e = absurd (true≢false e)
 
-  pub add_new : n ≤ i → n < 64 → Gathers (keys_at r 0 n) ((t, o) ∷ []) (set (set r (2 * n) t) (2 * n + 1) o) (n + 1)
-  add_new h g =
-      let l = keys_length r 0 n in
-      record {
-        size = length-set (set r (2 * n) t) (2 * n + 1) o ∙ length-set r (2 * n) t ∙ size;
-        fine = λ _. keys_with r n t o (omega arith) ∙ sym (note_new (t, o) (keys_at r 0 n) (omega arith));
-        over = λ e. absurd (omega arith);
-      }
+    pub add_full : n ≡ 64 → Gathers (keys_at r 0 n) ((t, o) ∷ []) r None
+    add_full h = let l = keys_length r 0 n in record { size = size; count = omega (arith, ap length new, length-append (keys_at r 0 n) ((t, o) ∷ [])) }
+
+    pub add_new : (n ≡ 64 → ⊥) → Gathers (keys_at r 0 n) ((t, o) ∷ []) (set (set r (2 * n) t) (2 * n + 1) o) (Some (n + 1))
+    add_new h = record { size = length-set (set r (2 * n) t) (2 * n + 1) o ∙ length-set r (2 * n) t ∙ size; count = (omega arith, keys_with r n t o (omega arith) ∙ sym new) }
 
 -- ---- one list after another
 
 -- the rest of the keys can only add
-module _ (ks l m s : List Key) (r : List ℕ) (a : ℕ) (e : s ≡ foldl note ks l) (g : Gathers s m r a) where
-  pub gathers_stop : (p : List Key) → 64 < a → Gathers ks (l ++ (m ++ p)) r a
-  gathers_stop p o =
+module _ (ks l m s : List Key) (r : List ℕ) (e : s ≡ foldl note ks l) where
+  pub gathers_stop : (p : List Key) → Gathers s m r None → Gathers ks (l ++ (m ++ p)) r None
+  gathers_stop p g =
       record {
         size = g.size;
-        fine = λ f. absurd (omega arith);
-        over = λ _.
-            let h = g.over o in
+        count =
+            let h : 64 < length (foldl note s m) = g.count in
             let q : foldl note ks (l ++ (m ++ p)) ≡ foldl note (foldl note s m) p = foldl_append note ks l (m ++ p) ∙ ap (λ v. foldl note v (m ++ p)) (sym e) ∙ foldl_append note s m p in
             omega (arith, ap length q, notes_le p (foldl note s m));
       }
 
-  pub gathers_on : a ≤ 64 → keys_at r 0 a ≡ foldl note ks (l ++ m)
-  gathers_on o = g.fine o ∙ ap (λ v. foldl note v m) e ∙ sym (foldl_append note ks l m)
+  pub gathers_on : (a : ℕ) → Gathers s m r (Some a) → keys_at r 0 a ≡ foldl note ks (l ++ m)
+  gathers_on a g = g.count.1 ∙ ap (λ v. foldl note v m) e ∙ sym (foldl_append note ks l m)
 
 -- ---- the tags of one entry
 
@@ -214,25 +220,25 @@ module _ (l : List ℕ) (t : ℕ) (b : t < length l) where
 -- ---- the loops over the tags of an entry
 
 module _ (had : List ℕ) (t : ℕ) (b : t < length had) (ks s : List Key) (so_far : s ≡ foldl note ks (holds 0 (take t (tags_of had)))) where
-  module _ (h : get_or had t 0 ≡ 255 → ⊥) (r : List ℕ) (a : ℕ) (g : Gathers s ((t, get_or had t 0) ∷ []) r a) where
+  module _ (h : get_or had t 0 ≡ 255 → ⊥) (r : List ℕ) where
     one : one_held t (opt (get_or had t 0)) ≡ (t, get_or had t 0) ∷ []
     one = ap (one_held t) (opt_some (get_or had t 0) h)
 
-    pub gather_over : 64 < a → Gathers ks (holds 0 (tags_of had)) r a
-    gather_over o =
-        subst (λ l. Gathers ks l r a) (sym (holds_whole had t b ∙ ap (λ v. holds 0 (take t (tags_of had)) ++ (v ++ holds (suc t) (drop (suc t) (tags_of had)))) one))
-        (gathers_stop ks (holds 0 (take t (tags_of had))) ((t, get_or had t 0) ∷ []) s r a so_far g (holds (suc t) (drop (suc t) (tags_of had))) o)
+    pub gather_over : Gathers s ((t, get_or had t 0) ∷ []) r None → Gathers ks (holds 0 (tags_of had)) r None
+    gather_over g =
+        subst (λ l. Gathers ks l r None) (sym (holds_whole had t b ∙ ap (λ v. holds 0 (take t (tags_of had)) ++ (v ++ holds (suc t) (drop (suc t) (tags_of had)))) one))
+        (gathers_stop ks (holds 0 (take t (tags_of had))) ((t, get_or had t 0) ∷ []) s r so_far (holds (suc t) (drop (suc t) (tags_of had))) g)
 
-    pub gather_on : a ≤ 64 → keys_at r 0 a ≡ foldl note ks (holds 0 (take (t + 1) (tags_of had)))
-    gather_on o =
-        gathers_on ks (holds 0 (take t (tags_of had))) ((t, get_or had t 0) ∷ []) s r a so_far g o
+    pub gather_on : (a : ℕ) → Gathers s ((t, get_or had t 0) ∷ []) r (Some a) → keys_at r 0 a ≡ foldl note ks (holds 0 (take (t + 1) (tags_of had)))
+    gather_on a g =
+        gathers_on ks (holds 0 (take t (tags_of had))) ((t, get_or had t 0) ∷ []) s r so_far a g
         ∙ ap (λ l. foldl note ks l) (sym (holds_more had t b ∙ ap (λ v. holds 0 (take t (tags_of had)) ++ v) one))
 
   pub gather_skip : get_or had t 0 ≡ 255 → s ≡ foldl note ks (holds 0 (take (t + 1) (tags_of had)))
   gather_skip e = so_far ∙ ap (λ l. foldl note ks l) (sym (holds_more had t b ∙ ap (λ v. holds 0 (take t (tags_of had)) ++ v) (ap (one_held t) (opt_none (get_or had t 0) e)) ∙ append-nil (holds 0 (take t (tags_of had)))))
 
-pub gathered : (ks l l' : List Key) (r : List ℕ) (k : ℕ) → length r ≡ 128 → k ≤ 64 → keys_at r 0 k ≡ foldl note ks l → l ≡ l' → Gathers ks l' r k
-gathered ks l l' r k size few e q = record { size = size; fine = λ _. e ∙ ap (λ v. foldl note ks v) q; over = λ e. absurd (omega arith) }
+pub gathered : (ks l l' : List Key) (r : List ℕ) (k : ℕ) → length r ≡ 128 → k ≤ 64 → keys_at r 0 k ≡ foldl note ks l → l ≡ l' → Gathers ks l' r (Some k)
+gathered ks l l' r k size few e q = record { size = size; count = (few, e ∙ ap (λ v. foldl note ks v) q) }
 
 pub whole_tags : (had : List ℕ) (t : ℕ) → length had ≤ t → take t (tags_of had) ≡ tags_of had
 whole_tags had t h = let e = length-map had opt in lib.Seq.take_all t (tags_of had) (omega arith)
@@ -320,15 +326,15 @@ module _ (w : List ℕ) (i : ℕ) (e : Entry) (at : thread_of e ≡ thread_at w 
       ∙ ap (λ v. threads_at w 2 i ++ v ∷ drop (suc i) (threads_at w 2 n)) (threads_at_at w 2 n i (thread_of e) b ∙ sym at))
       ∙ each_append (λ s. holds 0 s.had) (threads_at w 2 i) (thread_of e ∷ drop (suc i) (threads_at w 2 n))
 
-  module _ (s : List Key) (so_far : s ≡ foldl note [] (held_by (threads_at w 2 i))) (r : List ℕ) (a : ℕ) (g : Gathers s (holds 0 (tags_of e.had)) r a) where
-    pub list_over : i < get_or w 0 0 → 64 < a → Gathers [] (held_by (slot w 0)) r a
+  module _ (s : List Key) (so_far : s ≡ foldl note [] (held_by (threads_at w 2 i))) (r : List ℕ) where
+    pub list_over : i < get_or w 0 0 → Gathers s (holds 0 (tags_of e.had)) r None → Gathers [] (held_by (slot w 0)) r None
     unfolding slot
-    list_over b o =
-        subst (λ l. Gathers [] l r a) (sym (held_rest (get_or w 0 0) b))
-        (gathers_stop [] (held_by (threads_at w 2 i)) (holds 0 (tags_of e.had)) s r a so_far g (held_by (drop (suc i) (threads_at w 2 (get_or w 0 0)))) o)
+    list_over b g =
+        subst (λ l. Gathers [] l r None) (sym (held_rest (get_or w 0 0) b))
+        (gathers_stop [] (held_by (threads_at w 2 i)) (holds 0 (tags_of e.had)) s r so_far (held_by (drop (suc i) (threads_at w 2 (get_or w 0 0)))) g)
 
-    pub list_on : a ≤ 64 → keys_at r 0 a ≡ foldl note [] (held_by (threads_at w 2 (i + 1)))
-    list_on o = gathers_on [] (held_by (threads_at w 2 i)) (holds 0 (tags_of e.had)) s r a so_far g o ∙ ap (λ l. foldl note [] l) (sym held_more)
+    pub list_on : (a : ℕ) → Gathers s (holds 0 (tags_of e.had)) r (Some a) → keys_at r 0 a ≡ foldl note [] (held_by (threads_at w 2 (i + 1)))
+    list_on a g = gathers_on [] (held_by (threads_at w 2 i)) (holds 0 (tags_of e.had)) s r so_far a g ∙ ap (λ l. foldl note [] l) (sym held_more)
 
 pub slot_whole : (w : List ℕ) (i : ℕ) → i ≡ get_or w 0 0 → threads_at w 2 i ≡ slot w 0
 unfolding slot
@@ -367,20 +373,12 @@ named_end {ks} {w} {w'} h e = subst (λ v. Named ks w w' v) e h
 
 -- ---- the whole
 
-module _ (w₀ r : List ℕ) (k : ℕ) (g : Gathers [] (held_by (slot w₀ 0)) r k) where
-  pub number_over : 64 < k → Numbers (slot w₀ 0) w₀ r k
-  unfolding registers
-  number_over o =
-      record {
-        size = g.size;
-        over = g.over;
-        count = λ e. absurd (omega arith);
-        tally = λ e. absurd (omega arith);
-        regs = λ e. absurd (omega arith);
-        sit = λ e. absurd (omega arith);
-      }
+pub number_over : (w₀ r : List ℕ) → Gathers [] (held_by (slot w₀ 0)) r None → Numbers (slot w₀ 0) w₀ r None
+unfolding registers
+number_over w₀ r g = record { size = g.size; what = g.count }
 
-  module _ (few : k ≤ 64) (w : List ℕ) (size : length w₀ ≡ 578) (n : Named (keys_at r 0 k) w₀ w (get_or w₀ 0 0)) where
+module _ (w₀ r : List ℕ) (k : ℕ) (g : Gathers [] (held_by (slot w₀ 0)) r (Some k)) where
+  module _ (w : List ℕ) (size : length w₀ ≡ 578) (n : Named (keys_at r 0 k) w₀ w (get_or w₀ 0 0)) where
     first : get_or (set w 1 k) 0 0 ≡ get_or w₀ 0 0
     first = get_or-set_other w 1 0 k 0 (λ z. omega arith) ∙ n.else 0 (inl (omega arith))
 
@@ -388,51 +386,53 @@ module _ (w₀ r : List ℕ) (k : ℕ) (g : Gathers [] (held_by (slot w₀ 0)) r
     unfolding slot
     named = ap (threads_at (set w 1 k) 2) first ∙ threads_at_same w (set w 1 k) 2 (get_or w₀ 0 0) (λ i u v. get_or-set_other w 1 i k 0 (λ z. omega arith)) ∙ n.done
 
-    pub number_fine : Numbers (slot w₀ 0) (set w 1 k) r k
+    pub number_fine : Numbers (slot w₀ 0) (set w 1 k) r (Some k)
     unfolding registers number
     number_fine =
         record {
           size = g.size;
-          over = λ e. absurd (omega arith);
-          count = λ _. sym (keys_length r 0 k) ∙ ap length (g.fine few);
-          tally = λ _. get_or-set_same w 1 k 0 (omega (arith, n.size));
-          regs = g.fine;
-          sit = λ _. named ∙ ap (λ ks. rename (λ t p. index (t, p) ks) (slot w₀ 0)) (g.fine few);
+          what = record {
+            few = g.count.0;
+            count = sym (keys_length r 0 k) ∙ ap length g.count.1;
+            tally = get_or-set_same w 1 k 0 (omega (arith, n.size));
+            regs = g.count.1;
+            sit = named ∙ ap (λ ks. rename (λ t p. index (t, p) ks) (slot w₀ 0)) g.count.1;
+          };
         }
 
     pub number_fit : (N : ℕ) → Fit N w₀ → Fit N (set w 1 k)
     number_fit N h = record { size = length-set w 1 k ∙ n.size ∙ size; few = omega (arith, first, h.few); below = rw named (below_renamed N (λ t p. index (t, p) (keys_at r 0 k)) (slot w₀ 0) h.below) }
 
-pub index_small : (r : List ℕ) (n : ℕ) → n ≤ 64 → (i t o : ℕ) → i ≡ index (t, o) (keys_at r 0 n) → i < 255
-index_small r n s i t o e = omega (arith, index_le (t, o) (keys_at r 0 n), keys_length r 0 n)
-
-module _ (A : Net) (N : ℕ) (v w r : List ℕ) (a : ℕ) (h : Numbers (slot v 0) w r a) (fit : Fit N w) where
-  is_number : (l : List (Thread Tags)) → slot v 0 ≡ l → Is N (number l) w a
-  is_number l q =
+-- their count, or they are more than 64
+module _ (A : Net) (N : ℕ) (v w r : List ℕ) where
+  is_number : (a : std.Option ℕ) → Numbers (slot v 0) w r a → (l : List (Thread Tags)) → slot v 0 ≡ l → MatchOption a (64 < length (registers (number l))) (λ n. Is (number l) w n × (keys_at r 0 n ≡ registers l))
+  is_number None h l q =
+      let o : 64 < length (registers (slot v 0)) = h.what in
       let m = as_many_registers (slot v 0) in
-      record {
-        over = λ o. subst (λ v. 64 < length (registers (number v))) q (omega (arith, h.over o));
-        count = λ o. h.count o ∙ sym m ∙ ap (λ v. length (registers (number v))) q;
-        tally = h.tally;
-        sit = λ o. h.sit o ∙ ap number q;
-        fit = fit;
-      }
+      subst (λ v. 64 < length (registers (number v))) q (omega arith)
+  is_number (Some a) h l q =
+      let x : Numbered (slot v 0) w r a = h.what in
+      let m = as_many_registers (slot v 0) in (
+        record { few = x.few; count = x.count ∙ sym m ∙ ap (λ v. length (registers (number v))) q; tally = x.tally; sit = x.sit ∙ ap number q },
+        x.regs ∙ ap registers q,
+      )
 
-  pub stepped : (b count : ℕ) (s : List (Thread Tags)) → count ≡ length (registers s) → slot v 0 ≡ step A count b s → Stepped A N b s w r a
+  pub stepped : (a : std.Option ℕ) → Numbers (slot v 0) w r a → Fit N w → (b count : ℕ) (s : List (Thread Tags)) → count ≡ length (registers s) → slot v 0 ≡ step A count b s → Stepped A N b s w r a
   unfolding next origins
-  stepped b count s c e =
-      let q : slot v 0 ≡ step A (length (registers s)) b s = e ∙ ap (λ v. step A v b s) c in
-      record { is = is_number _ q; size = h.size; from = λ o. ap (λ v. map (λ k. k.1) v) (h.regs o ∙ ap registers q) }
+  stepped None h fit b count s c e = record { fit = fit; size = h.size; what = is_number None h _ (e ∙ ap (λ v. step A v b s) c) }
+  stepped (Some a) h fit b count s c e =
+      let x = is_number (Some a) h _ (e ∙ ap (λ v. step A v b s) c) in
+      record { fit = fit; size = h.size; what = (x.0, ap (map (λ k. k.1)) x.1) }
 
-  pub begun : slot v 0 ≡ begin A → Begun A N w r a
+  pub begun : (a : std.Option ℕ) → Numbers (slot v 0) w r a → Fit N w → slot v 0 ≡ begin A → Begun A N w r a
   unfolding situation after
-  begun q = record { is = is_number _ q; from = λ o. h.regs o ∙ ap registers q }
+  begun a h fit q = record { fit = fit; what = is_number a h _ q }
 
 -- the first thread
 pub first_thread : (e : Entry) → e.on ≡ 0 → e.had ≡ replicate 8 255 → thread_of e ≡ record { on = 0; had = no_tags }
 unfolding thread_of
 first_thread e p q = rw (p, q)
 
-pub began : (A : Net) (n : ℕ) → n ≡ suc (length A) → (e : Entry) → thread_of e ≡ record { on = 0; had = no_tags } → (M l : List ℕ) (c : ℕ) → Means M l c (marking (tagged 0) A n (record { marks = []; list = [] }) (thread_of e)) → threads_at l 2 c ≡ begin A
+pub began : (A : Net) (n : ℕ) → n ≡ suc (length A) → (e : Entry) → thread_of e ≡ record { on = 0; had = no_tags } → (M : List Bool) (l : List ℕ) (c : ℕ) → Means M l c (marking (tagged 0) A n (record { marks = []; list = [] }) (thread_of e)) → threads_at l 2 c ≡ begin A
 unfolding begin marked_close
 began A n z e q M l c h = h.list ∙ ap (λ v. v.list) ((λ i. marking (tagged 0) A (z i) (record { marks = []; list = [] }) (q i)) ∙ marked_right (tagged 0) A (record { on = 0; had = no_tags } ∷ []))

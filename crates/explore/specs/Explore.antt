@@ -1,5 +1,7 @@
 -- The exploration over the work memory. Assumes nothing.
-use Rattle.std.specs.Prelude.{◌≡◌, List, map, ℕ, ◌+◌, ◌*◌, ◌≤◌, ◌<◌, length, get_or, ◌-◌}
+use Rattle.std.specs.Prelude.{Result, MatchResult, ◌≡◌, List, map, ℕ, ◌+◌, ◌*◌, ◌≤◌, ◌<◌, length, get_or, ◌-◌}
+use Rattle.answers.specs.declared.Refusal.{Refusal}
+use Rattle.answers.specs.declared.Refusal.TheVariants.{Registers, Situations}
 use Rattle.net.specs.Rec.{Net, rec}
 use Rattle.paths.specs.Situation.{bite}
 use Rattle.paths.specs.Limits.{Sit, bytes, first, TooManyRegisters, TooManySituations, Stops}
@@ -9,7 +11,6 @@ use Rattle.paths.specs.Equal.{same_situation}
 use Rattle.paths.specs.Numbering.{put, once}
 use Rattle.explore.specs.States.{Below}
 use Rattle.explore.specs.Slots.{slot, slots}
-use Rattle.explore.specs.declared.Tried.{Tried}
 
 -- a slot holds a situation with at most 64 registers, and their count
 pub record Holds (N : ℕ) (w : List ℕ) (j : ℕ) : Type 0 where
@@ -23,29 +24,33 @@ pub record Kept (N : ℕ) (w : List ℕ) (count : ℕ) : Type 0 where
   pub most : count ≤ 96
   pub holds : (j : ℕ) → j < count → Holds N w j
 
--- the state s, after `found`
-pub record Tries (A : Net) (N : ℕ) (w w' : List ℕ) (count : ℕ) (l : Sit) (b : ℕ) (a : Tried) : Type 0 where
-  pub size : length w' ≡ length w
-  pub fine : a.answer ≡ 0 → Kept N w' a.count × (slots w' 0 a.count ≡ put same_situation (slots w 0 count) (next A b l))
-  pub regs : a.answer ≡ 10 → TooManyRegisters (slots w 0 count) (next A b l)
-  pub sits : a.answer ≡ 11 → TooManySituations (slots w 0 count) (next A b l)
-  pub one_of : (a.answer ≡ 0 → ⊥) → (a.answer ≡ 10 → ⊥) → a.answer ≡ 11
+-- the state s is refused after `found`
+abbrev pub Refused : List Sit → Sit → Refusal → Type 0
+Refused found s Registers = TooManyRegisters found s
+Refused found s Situations = TooManySituations found s
+Refused found s _ = ⊥
 
--- all bytes from l, after `found`
-pub record Expands (A : Net) (N : ℕ) (w w' : List ℕ) (count : ℕ) (l : Sit) (a : Tried) : Type 0 where
+-- what byte b leads to from l, after `found`: n situations are stored then
+pub record Tries (A : Net) (N : ℕ) (w w' : List ℕ) (count : ℕ) (l : Sit) (b : ℕ) (a : Result ℕ Refusal) : Type 0 where
   pub size : length w' ≡ length w
-  pub fine : a.answer ≡ 0 → Kept N w' a.count × (slots w' 0 a.count ≡ once same_situation (slots w 0 count) (map (λ b. next A b l) (bytes 0 256)))
-  pub regs : a.answer ≡ 10 → (b : ℕ) × ((b < 256) × TooManyRegisters (once same_situation (slots w 0 count) (map (λ b. next A b l) (bytes 0 b))) (next A b l))
-  pub sits : a.answer ≡ 11 → (b : ℕ) × ((b < 256) × TooManySituations (once same_situation (slots w 0 count) (map (λ b. next A b l) (bytes 0 b))) (next A b l))
-  pub one_of : (a.answer ≡ 0 → ⊥) → (a.answer ≡ 10 → ⊥) → a.answer ≡ 11
+  pub what : MatchResult a (λ n. Kept N w' n × (slots w' 0 n ≡ put same_situation (slots w 0 count) (next A b l))) (Refused (slots w 0 count) (next A b l))
+
+-- what all bytes lead to from l, after `found`
+pub record Expands (A : Net) (N : ℕ) (w w' : List ℕ) (count : ℕ) (l : Sit) (a : Result ℕ Refusal) : Type 0 where
+  pub size : length w' ≡ length w
+  pub what : MatchResult a (λ n. Kept N w' n × (slots w' 0 n ≡ once same_situation (slots w 0 count) (map (λ b. next A b l) (bytes 0 256))))
+      (λ e. (b : ℕ) × ((b < 256) × Refused (once same_situation (slots w 0 count) (map (λ b. next A b l) (bytes 0 b))) (next A b l) e))
+
+-- the numbering stops at a refused state
+abbrev pub Stopped : Net → Refusal → Type 0
+Stopped A Registers = Stops A TooManyRegisters
+Stopped A Situations = Stops A TooManySituations
+Stopped A _ = ⊥
 
 -- the whole exploration
-pub record Explores (A : Net) (N : ℕ) (w w' : List ℕ) (a : Tried) : Type 0 where
+pub record Explores (A : Net) (N : ℕ) (w w' : List ℕ) (a : Result ℕ Refusal) : Type 0 where
   pub size : length w' ≡ length w
-  pub fine : a.answer ≡ 0 → Kept N w' a.count × ((slots w' 0 a.count ≡ first A a.count) × (length (first A a.count) ≡ a.count))
-  pub regs : a.answer ≡ 10 → Stops A TooManyRegisters
-  pub sits : a.answer ≡ 11 → Stops A TooManySituations
-  pub one_of : (a.answer ≡ 0 → ⊥) → (a.answer ≡ 10 → ⊥) → a.answer ≡ 11
+  pub what : MatchResult a (λ n. Kept N w' n × ((slots w' 0 n ≡ first A n) × (length (first A n) ≡ n))) (Stopped A)
 
 -- every record treats b as it treats the byte before it
 pub record Alike (A : Net) (N b : ℕ) : Type 0 where

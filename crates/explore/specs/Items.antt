@@ -1,5 +1,5 @@
 -- What is known of the records of an automaton file, read straight from its bytes at an offset. Assumes nothing.
-use Rattle.std.specs.Prelude.{List, [], ◌∷◌, ℕ, ◌+◌, ◌≤◌, ◌<◌, length, get_or}
+use Rattle.std.specs.Prelude.{Option, Some, None, List, [], ◌∷◌, ℕ, ◌+◌, ◌≤◌, ◌<◌, length, get_or}
 use Rattle.net.specs.Items.{size, rec_at}
 use Rattle.net.specs.Rec.{Rec, range, mask, fork, tag, end}
 use Rattle.paths.specs.Ways.{Move}
@@ -18,7 +18,7 @@ pub record Formed (f offs : List ℕ) : Type 0 where
   pub whole : (r : ℕ) → r < length offs → get_or offs r 0 + size (get_or f (get_or offs r 0) 0) ≤ length f
   pub inside : (r : ℕ) → r < length offs → Inside (length offs) (rec_at f (get_or offs r 0))
 
--- the record that a byte leads to, 255 where it takes none
-abbrev pub lands : List (Move × ℕ) → ℕ
-lands [] = 255
-lands (e ∷ es) = e.1
+-- the record that a byte leads to, if it takes one
+abbrev pub lands : List (Move × ℕ) → Option ℕ
+lands [] = None
+lands (e ∷ es) = Some e.1

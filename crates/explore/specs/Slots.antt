@@ -1,5 +1,5 @@
 -- The work memory: situations in slots of 578 bytes. Assumes nothing.
-use Rattle.std.specs.Prelude.{◌≡◌, ◌⊎◌, true, false, List, [], ◌∷◌, ℕ, zero, suc, ◌+◌, ◌*◌, ◌≤◌, ◌<◌, length, get_or}
+use Rattle.std.specs.Prelude.{Option, MatchOption, ◌≡◌, ◌⊎◌, true, false, List, [], ◌∷◌, ℕ, zero, suc, ◌+◌, ◌*◌, ◌≤◌, ◌<◌, length, get_or}
 use Rattle.paths.specs.Search.{Thread}
 use Rattle.paths.specs.Registers.{Tags}
 use Rattle.paths.specs.Equal.{same_situation}
@@ -51,8 +51,12 @@ pub record Fit (N : ℕ) (w : List ℕ) : Type 0 where
   pub few : get_or w 0 0 ≤ 64
   pub below : Below N (slot w 0)
 
-pub record Placed (w : List ℕ) (count : ℕ) (l : List (Thread Tags)) (a : ℕ) : Type 0 where
-  pub within : a ≤ count
-  pub found : a < count → (among same_situation l (slots w 0 count) ≡ true) × (same_situation l (slot w a) ≡ true)
-  pub missing : a ≡ count → among same_situation l (slots w 0 count) ≡ false
-  pub first : a ≡ position same_situation l (slots w 0 count)
+-- l stands in slot j, and in none before it
+pub record Lies (w : List ℕ) (count : ℕ) (l : List (Thread Tags)) (j : ℕ) : Type 0 where
+  pub within : j < count
+  pub found : (among same_situation l (slots w 0 count) ≡ true) × (same_situation l (slot w j) ≡ true)
+  pub first : j ≡ position same_situation l (slots w 0 count)
+
+-- the first slot that holds l, if one of the first `count` does
+abbrev pub Placed : List ℕ → ℕ → List (Thread Tags) → Option ℕ → Type 0
+Placed w count l a = MatchOption a (among same_situation l (slots w 0 count) ≡ false) (Lies w count l)

@@ -16,18 +16,18 @@ unfoldable pub thread_of : Entry → Thread Tags
 thread_of e = record { on = e.on; had = tags_of e.had }
 
 -- M-101 changes these two
-abbrev pub marked : List ℕ → ℕ → Bool
-marked m r = eqb (get_or m r 0) 1
+abbrev pub marked : List Bool → ℕ → Bool
+marked m r = get_or m r false
 
-abbrev pub ones : List ℕ → ℕ
+abbrev pub ones : List Bool → ℕ
 ones [] = 0
-ones (x ∷ l) = cond (eqb x 1) (suc (ones l)) (ones l)
+ones (x ∷ l) = cond x (suc (ones l)) (ones l)
 
-unfoldable pub count_of : List ℕ → ℕ
+unfoldable pub count_of : List Bool → ℕ
 count_of m = ones m
 
 -- r is marked, and nothing else changes
-pub record MarkedBy (m : List ℕ) (r : ℕ) (m' : List ℕ) : Type 0 where
+pub record MarkedBy (m : List Bool) (r : ℕ) (m' : List Bool) : Type 0 where
   pub size : length m' ≡ length m
   pub here : marked m' r ≡ true
   pub else : (q : ℕ) → (q ≡ r → ⊥) → marked m' q ≡ marked m q

@@ -7,13 +7,17 @@ ghost use Rattle.field.specs.Field.{cut_of, code_of, bytes_of};
 ghost use Rattle.net.specs.Count.{byte_count};
 ghost use Rattle.reading.specs.Reading.{cut_by};
 ghost use Rattle.card.specs.Judged.{Judged};
-ghost use Rattle.run.specs.Runs.{Runs};
+ghost use Rattle.run.specs.Runs.{told_of, Runs};
 ghost use Rattle.image.specs.Image.{Mounts};
 ghost use Rattle.ride.specs.Ride.{ridden};
 ghost use Rattle.export.specs.Results.{told, made, built};
 ghost use Rattle.build.specs.Build.{Builds};
 ghost use Rattle.pattern.specs.Maker.{given, maker};
 ghost use Rattle.export.specs.Copied.{Copies};
+
+use answers::{OK, Refusal};
+use build::Built;
+use run::Match;
 
 // The number of the field call on these values.
 #[unsafe(no_mangle)]
@@ -50,9 +54,9 @@ pub extern "C" fn cv_field(line: &[u8], from: i16, to: i16, out: &mut [u8]) -> u
 pub extern "C" fn cv_count(net: &[u8], index: usize, count: &mut u32) -> u8
     ensures { (result ≡ (byte_count net.now index).code) × (count.new ≡ (byte_count net.now index).count) }
 {
-    let c = net::byte_count(net, index);
-    *count = c.count;
-    c.code
+    let n = net::byte_count(net, index);
+    *count = n.unwrap_or(0);
+    answers::number(n)
 }
 
 // The number of a reading's part between two tags.
@@ -80,7 +84,22 @@ pub extern "C" fn cv_reading(line: &[u8], places: &[i16; 8], a: u8, b: u8, out: 
 pub extern "C" fn cv_load(table: &[u8]) -> u8
     ensures { Judged table.now result }
 {
-    loader::load(table)
+    answers::number(loader::load(table))
+}
+
+// What was told of a line, one by one: the code, and beside it the answer or 255 and the eight places, -1 for absent.
+fn tell(r: Result<Match, Refusal>, answer: &mut u8, places: &mut [i16; 8]) -> u8
+    ensures { told result answer.new places.new ≡ told_of r }
+{
+    let none = Match {
+        answer: 255,
+        places: [-1; 8],
+    };
+    let m = r.unwrap_or(none);
+    let told = m.places;
+    *answer = m.answer;
+    *places = told;
+    answers::number(r)
 }
 
 // A run of a table over a line: the code, and beside it the answer and the eight places.
@@ -88,11 +107,7 @@ pub extern "C" fn cv_load(table: &[u8]) -> u8
 pub extern "C" fn cv_run(table: &[u8], line: &[u8], answer: &mut u8, places: &mut [i16; 8]) -> u8
     ensures { Runs table.now line.now (told result answer.new places.new) }
 {
-    let r = run::run(table, line);
-    let p = r.places;
-    *answer = r.answer;
-    *places = p;
-    r.code
+    tell(run::run(table, line), answer, places)
 }
 
 // A pattern text made into an automaton file: the code, and beside it the place of a fault and how many bytes were written.
@@ -105,10 +120,18 @@ pub extern "C" fn cv_pattern(
 ) -> u8
     ensures { given (made result place.new length.new) out.new ≡ maker text.now out.old }
 {
-    let m = pattern::pattern(text, out);
-    *place = m.place;
-    *length = m.length;
-    m.code
+    match pattern::pattern(text, out) {
+        Ok(n) => {
+            *place = 0;
+            *length = n;
+            OK
+        }
+        Err(f) => {
+            *place = f.place();
+            *length = 0;
+            u8::from(Refusal::from(f))
+        }
+    }
 }
 
 // A table built of an automaton file: the code, and beside it the table's bytes, its situations and its registers.
@@ -124,10 +147,16 @@ pub extern "C" fn cv_build(
     ensures { Builds net.now work.old out.old work.new out.new (built result length.new situations.new registers.new) }
 {
     let b = build::build(net, work, out);
-    *length = b.length;
-    *situations = b.situations;
-    *registers = b.registers;
-    b.code
+    let none = Built {
+        length: 0,
+        situations: 0,
+        registers: 0,
+    };
+    let told = b.unwrap_or(none);
+    *length = told.length;
+    *situations = told.situations;
+    *registers = told.registers;
+    answers::number(b)
 }
 
 // A table judged once and written as an image that lines ride over: 257 numbers for each situation.
@@ -135,7 +164,7 @@ pub extern "C" fn cv_build(
 pub extern "C" fn cv_mount(table: &[u8], image: &mut [u32]) -> u8
     ensures { Mounts table.now image.old image.new result }
 {
-    image::mount(table, image)
+    answers::number(image::mount(table, image))
 }
 
 // A run over an image: on the image that mounting wrote of a taken table it is the run of that table.
@@ -149,11 +178,7 @@ pub extern "C" fn cv_ride(
 ) -> u8
     ensures { told result answer.new places.new ≡ ridden table.now image.now line.now }
 {
-    let r = ride::ride(table, image, line);
-    let p = r.places;
-    *answer = r.answer;
-    *places = p;
-    r.code
+    tell(ride::ride(table, image, line), answer, places)
 }
 
 // A ride of two lines in step, each as if alone: the codes and the answers in this order, and the places of each.
@@ -171,12 +196,10 @@ pub extern "C" fn cv_ride_two(
     ensures { (told (get_or codes.new 0 0) (get_or answers.new 0 0) first.new ≡ ridden table.now image.now line.now) × (told (get_or codes.new 1 0) (get_or answers.new 1 0) second.new ≡ ridden table.now image.now other.now) }
 {
     let r = ride::ride_two(table, image, line, other);
-    let a = r.first;
-    let b = r.second;
-    let p = a.places;
-    let q = b.places;
-    *codes = [a.code, b.code];
-    *answers = [a.answer, b.answer];
-    *first = p;
-    *second = q;
+    let mut answer = 0;
+    let mut beside = 0;
+    let code = tell(r.first, &mut answer, first);
+    let code_beside = tell(r.second, &mut beside, second);
+    *codes = [code, code_beside];
+    *answers = [answer, beside];
 }

@@ -4,7 +4,7 @@ use native.Mathlib.Omega.{arith}
 use native.Mathlib.Numerals.{add-one}
 use mathlib.Core.Path.{◌≡◌, refl, sym, ap, ap₂, ◌∙◌, subst}
 use mathlib.Core.Bool.{Bool, true, false}
-use mathlib.Core.Logic.{◌⊎◌, inl, inr}
+use mathlib.Core.Logic.{◌⊎◌}
 use mathlib.Core.List.{List, [], ◌∷◌, ◌++◌}
 use lib.Dec.{ltb}
 use Rattle.ground.specs.Pick.{pick}
@@ -14,9 +14,11 @@ use Rattle.card.specs.Decode.{cmd_at, cmds_at, row_at}
 use Rattle.card.specs.declared.Order.TheVariants.{Move, Put, Stop}
 use Rattle.card.specs.declared.RowItem.{RowItem}
 use Rattle.card.specs.declared.RowItem.TheVariants.{Leads, Ends}
-use Rattle.card.proofs.Laws.{cmds_step, move_facts, put_facts}
+use Rattle.card.proofs.Laws.{cmds_step}
 use Rattle.run.specs.Carry.{Alone}
-use Rattle.image.specs.Need.{SetsRun, MovesRun, Begins, Sorted}
+use Rattle.image.specs.Need.{stretch_of, on_with, Stretched, Begins, Sorted}
+use Rattle.run.proofs.Carrying.{commands}
+use Rattle.card.specs.declared.Order.{Order}
 use Rattle.image.specs.Image.{puts, moves, block_bits, of_list, first_to, first_from, is_that, is_block, all_sets, list_kind, points, entry, row_entry, entry_at}
 use Rattle.image.proofs.Sorting.{of_block, whole, no_from, is_block_lem, no_block}
 
@@ -35,96 +37,14 @@ moves_on a f (suc n) l =
     (let h : a + suc n ≡ suc a + n = omega arith in h) (let h : f + suc n ≡ suc f + n = omega arith in h)
     ∙ ap (λ (m : List Cmd). move a f ∷ m) (moves_on (suc a) (suc f) n l)
 
--- ---- the list at a place
+-- a stretch with one more
+pub stretch_more : (first : Order) (n : ℕ) (l : List Cmd) → stretch_of first (n + 1) ++ l ≡ stretch_of first n ++ on_with first n l
+stretch_more (Put a) n l = ap (λ (m : ℕ). puts a m ++ l) (add-one n) ∙ sym (puts_on a n l)
+stretch_more (Move a f) n l = ap (λ (m : ℕ). moves a f m ++ l) (add-one n) ∙ sym (moves_on a f n l)
+stretch_more Stop n l = refl
 
-module _ (s : List ℕ) (i : ℕ) where
-  pub all_put : (t : ℕ) → cmd_at s i ≡ Put t → all_sets (cmds_at s (i + 2)) ≡ all_sets (cmds_at s i)
-  all_put t e = sym (ap all_sets (cmds_step s i (Put t) e))
-
-  pub all_move : (t f : ℕ) → cmd_at s i ≡ Move t f → false ≡ all_sets (cmds_at s i)
-  all_move t f e = sym (ap all_sets (cmds_step s i (Move t f) e))
-
-  pub all_stop : cmd_at s i ≡ Stop → true ≡ all_sets (cmds_at s i)
-  all_stop e = sym (ap all_sets (cmds_step s i Stop e))
-
-  -- the source of a MOVE here
-  abbrev From : ℕ → Type 0
-  From n = (n ≡ first_from (cmds_at s i)) × (n < 64)
-
-  pub from_move : (t f : ℕ) → cmd_at s i ≡ Move t f → From f
-  from_move t f e = (sym (ap first_from (cmds_step s i (Move t f) e)), (move_facts s i t f e).1)
-
-  pub from_put : (t : ℕ) → cmd_at s i ≡ Put t → From 0
-  from_put t e = (sym (ap first_from (cmds_step s i (Put t) e)), omega arith)
-
-  pub from_stop : cmd_at s i ≡ Stop → From 0
-  from_stop e = (sym (ap first_from (cmds_step s i Stop e)), omega arith)
-
--- ---- the SETs of registers from a on, the first n of them read
-
-module _ (s : List ℕ) (at a i n : ℕ) where
-  abbrev SetsHere : Type 0
-  SetsHere = (cmds_at s at ≡ puts a n ++ cmds_at s i) × (a + n ≤ 64)
-
-  pub sets_more : SetsHere → (t : ℕ) → cmd_at s i ≡ Put t → t ≡ a + n → (cmds_at s at ≡ puts a (n + 1) ++ cmds_at s (i + 2)) × (a + (n + 1) ≤ 64)
-  sets_more h t e k = (
-    h.0 ∙ ap (λ (l : List Cmd). puts a n ++ l) (cmds_step s i (Put t) e ∙ ap (λ (u : ℕ). put u ∷ cmds_at s (i + 2)) k)
-        ∙ puts_on a n (cmds_at s (i + 2)) ∙ ap (λ (m : ℕ). puts a m ++ cmds_at s (i + 2)) (sym (add-one n)),
-    (let f = put_facts s i t e in omega arith),
-  )
-
-  module _ (h : SetsHere) where
-    pub sets_other : (t : ℕ) → cmd_at s i ≡ Put t → (t ≡ a + n → ⊥) → SetsRun s at a n i
-    sets_other t e k = record {
-      here = h.0;
-      stops = λ l g. let f = cmds_step s i (Put t) e in k (cc);
-      inside = h.1;
-    }
-
-    pub sets_then : (t f : ℕ) → cmd_at s i ≡ Move t f → SetsRun s at a n i
-    sets_then t f e = record {
-      here = h.0;
-      stops = λ l g. let f = cmds_step s i (Move t f) e in let y : ◌≡◌ {A = ℕ} 0 1 = cc in omega arith;
-      inside = h.1;
-    }
-
-    pub sets_end : cmd_at s i ≡ Stop → SetsRun s at a n i
-    sets_end e = record {
-      here = h.0;
-      stops = λ l g. let f = cmds_step s i Stop e in let y : ◌≡◌ {A = ℕ} 0 1 = cc in omega arith;
-      inside = h.1;
-    }
-
--- ---- the MOVEs of registers from a on from those from f on, the first n of them read
-
-module _ (s : List ℕ) (at a f i n : ℕ) where
-  abbrev MovesHere : Type 0
-  MovesHere = (cmds_at s at ≡ moves a f n ++ cmds_at s i) × (a + n ≤ 64) × (f + n ≤ 64)
-
-  pub moves_more : MovesHere → (t u : ℕ) → cmd_at s i ≡ Move t u → t ≡ a + n → u ≡ f + n
-      → (cmds_at s at ≡ moves a f (n + 1) ++ cmds_at s (i + 3)) × (a + (n + 1) ≤ 64) × (f + (n + 1) ≤ 64)
-  moves_more h t u e k m = (
-    h.0 ∙ ap (λ (l : List Cmd). moves a f n ++ l) (cmds_step s i (Move t u) e ∙ ap₂ (λ (x y : ℕ). move x y ∷ cmds_at s (i + 3)) k m)
-        ∙ moves_on a f n (cmds_at s (i + 3)) ∙ ap (λ (m : ℕ). moves a f m ++ cmds_at s (i + 3)) (sym (add-one n)),
-    (let g = move_facts s i t u e in omega arith),
-    (let g = move_facts s i t u e in omega arith),
-  )
-
-  module _ (h : MovesHere) where
-    moves_stop : ((l : List Cmd) → cmds_at s i ≡ move (a + n) (f + n) ∷ l → ⊥) → MovesRun s at a f n i
-    moves_stop g = record { here = h.0; stops = g; inside = (h.1, h.2) }
-
-    pub moves_to : (t u : ℕ) → cmd_at s i ≡ Move t u → (t ≡ a + n → ⊥) → MovesRun s at a f n i
-    moves_to t u e k = moves_stop (λ l g. let c = cmds_step s i (Move t u) e in k (cc))
-
-    pub moves_from : (t u : ℕ) → cmd_at s i ≡ Move t u → (u ≡ f + n → ⊥) → MovesRun s at a f n i
-    moves_from t u e k = moves_stop (λ l g. let c = cmds_step s i (Move t u) e in k (cc))
-
-    pub moves_then : (t : ℕ) → cmd_at s i ≡ Put t → MovesRun s at a f n i
-    moves_then t e = moves_stop (λ l g. let c = cmds_step s i (Put t) e in let y : ◌≡◌ {A = ℕ} 0 1 = cc in omega arith)
-
-    pub moves_end : cmd_at s i ≡ Stop → MovesRun s at a f n i
-    moves_end e = moves_stop (λ l g. let c = cmds_step s i Stop e in let y : ◌≡◌ {A = ℕ} 0 1 = cc in omega arith)
+-- what a function that reads a stretch needs of it
+pub ruleset stretches = (commands, stretch_more)
 
 -- ---- the kind of the list at a place, and what its entry points to
 
@@ -146,7 +66,7 @@ module _ (s : List ℕ) (i : ℕ) where
   sort_move t f e = sort_plain (move t f) (cmds_at s (i + 3)) (cmds_step s i (Move t f) e) refl
 
   -- a list that begins with a SET
-  module _ {a k mid f n end : ℕ} (b : Begins s i a) (x : SetsRun s i a k mid) (o : f ≡ first_from (cmds_at s mid)) (y : MovesRun s mid (a + k) f n end) where
+  module _ {a k mid f n end : ℕ} (b : Begins s i a) (x : Stretched s i (Put a) k mid) (o : f ≡ first_from (cmds_at s mid)) (y : Stretched s mid (Move (a + k) f) n end) where
     begins : cmds_at s i ≡ put a ∷ cmds_at s (i + 2)
     begins = cmds_step s i (Put a) b.first
 
@@ -155,21 +75,12 @@ module _ (s : List ℕ) (i : ℕ) where
         x.stops (cmds_at s (i + 2))
         (sym (x.here ∙ ap (λ (m : ℕ). puts a m ++ cmds_at s mid) z) ∙ begins ∙ ap (λ (t : ℕ). put t ∷ cmds_at s (i + 2)) (let h : a ≡ a + k = omega arith in h))
 
-    sort_other : (32 < k) ⊎ ((a + k < f) ⊎ (cmds_at s end ≡ [] → ⊥)) → {m p : ℕ} → m ≡ pick (all_sets (cmds_at s i)) 2 3 → p ≡ i → Sorted s i m p
-    sort_other h {m} e g =
+    pub sort_other : (32 < k) ⊎ ((a + k < f) ⊎ (cmds_at s end ≡ [] → ⊥)) → {m p : ℕ} → (m ≡ pick (all_sets (cmds_at s i)) 2 3) × (p ≡ i) → Sorted s i m p
+    sort_other h {m} (e, g) =
         let e' : pick (all_sets (put a ∷ cmds_at s (i + 2))) 2 3 ≡ m = ap (λ (l : List Cmd). pick (all_sets l) 2 3) (sym begins) ∙ sym e in
         subst (λ (q : ℕ). Sorted s i m q) (sym g) (subst (λ (q : ℕ). Sorted s i q i) e'
         (sort_plain (put a) (cmds_at s (i + 2)) begins
         (sym (ap is_block begins) ∙ no_block a k f n x.here x.stops y.here y.stops o (ap first_to begins) h)))
-
-    pub sort_many : 32 < k → {m p : ℕ} → (m ≡ pick (all_sets (cmds_at s i)) 2 3) × (p ≡ i) → Sorted s i m p
-    sort_many h e = sort_other (inl h) e.0 e.1
-
-    pub sort_down : a + k < f → {m p : ℕ} → (m ≡ pick (all_sets (cmds_at s i)) 2 3) × (p ≡ i) → Sorted s i m p
-    sort_down h e = sort_other (inr (inl h)) e.0 e.1
-
-    pub sort_mixed : {r : Bool} → Alone s end r → r ≡ false → {m p : ℕ} → (m ≡ pick (all_sets (cmds_at s i)) 2 3) × (p ≡ i) → Sorted s i m p
-    sort_mixed o z e = sort_other (inr (inr (o.some z))) e.0 e.1
 
     -- a block
     module _ (few : k ≤ 32) (up : f ≤ a + k) {r : Bool} (d : Alone s end r) (z : r ≡ true) where

@@ -12,6 +12,8 @@ use Rattle.card.specs.Decode.{after_at, row_at}
 use Rattle.card.specs.declared.RowItem.{RowItem}
 use Rattle.card.specs.declared.RowItem.TheVariants.{Leads, Ends}
 use Rattle.card.proofs.Rows.{after_ge, no_line}
+use Rattle.run.proofs.Carrying.{row_whole_here}
+use Rattle.std.proofs.lemmas.Bool.Decides.{nat_tests}
 use Rattle.image.specs.Image.{spot_of, spot_n, spot_at}
 
 pub after_past : (s : List ℕ) (at : ℕ) → at + 4 ≤ after_at s (at + 4)
@@ -49,6 +51,13 @@ module _ (s : List ℕ) (b : ℕ) where
     spot_later l =
         spot_step at (Leads lo hi next) e
         ∙ ap (λ (t : Bool). pick t at (spot_at s (after_at s (at + 4)) b)) (lt-leb b hi l)
+
+-- a byte's row, from the row at a place
+pub spot_from : (s : List ℕ) (at b : ℕ) → spot_at s at b ≡ spot_of (row_at s at) (length s) b at (spot_at s (after_at s (at + 4)) b)
+spot_from s at b = spot_step s b at (row_at s at) refl
+
+-- what a function that looks for a byte's row needs
+pub ruleset spots = (row_whole_here, spot_from, nat_tests)
 
 -- a later byte's row is not before an earlier one's, so it may be looked for from there on
 module _ (s : List ℕ) (b d : ℕ) (l : b ≤ d) where

@@ -1,21 +1,17 @@
 -- What the inner functions of mounting are told and say. Assumes nothing: these are definitions.
-use Rattle.std.specs.Prelude.{◌≡◌, List, ◌∷◌, ◌++◌, ◌⊎◌, ℕ, ◌+◌, ◌*◌, ◌<◌, ◌≤◌, length, get_or}
+use Rattle.std.specs.Prelude.{◌≡◌, List, [], ◌∷◌, ◌++◌, ℕ, ◌+◌, ◌*◌, ◌<◌, ◌≤◌, length, get_or}
 use Rattle.card.specs.Table.{Cmd, move, put}
 use Rattle.card.specs.Decode.{cmd_at, cmds_at}
-use Rattle.card.specs.declared.Order.TheVariants.{Put}
+use Rattle.card.specs.declared.Order.{Order}
+use Rattle.card.specs.declared.Order.TheVariants.{Move, Put, Stop}
+use Rattle.image.specs.declared.sorts.Kind.{Kind}
+use Rattle.image.specs.declared.sorts.Kind.TheVariants.{Alone, Block, Sets, Moves}
 use Rattle.loader.specs.Flow.{Ready}
 use Rattle.image.specs.Image.{puts, moves, list_kind, points, spot_at, entry_at}
 
--- an image with room for the 256 entries of a situation
-pub record Room (image : List ℕ) (from : ℕ) : Type 0 where
-  pub room : from + 256 ≤ length image
-  pub low : from ≤ 65536
-
--- the first n entries of the situation whose rows stand at a place are written from a place of the image on, and nothing else
-pub record RowImaged (s : List ℕ) (at from n : ℕ) (old new : List ℕ) : Type 0 where
-  pub long : length new ≡ length old
-  pub entries : (b : ℕ) → b < n → get_or new (from + b) 0 ≡ entry_at s (spot_at s at b)
-  pub rest : (k : ℕ) → (k < from) ⊎ (from + n ≤ k) → get_or new k 0 ≡ get_or old k 0
+-- the 256 entries of the situation whose rows stand at a place
+pub record RowImaged (s : List ℕ) (at : ℕ) (row : List ℕ) : Type 0 where
+  pub entries : (b : ℕ) → b < 256 → get_or row b 0 ≡ entry_at s (spot_at s at b)
 
 -- a table that is ready, with places that fit an entry, and an image with room
 pub record Mountable (s places image : List ℕ) : Type 0 where
@@ -23,17 +19,29 @@ pub record Mountable (s places image : List ℕ) : Type 0 where
   pub short : length s < 8388608
   pub room : 257 * get_or s 4 0 ≤ length image
 
--- n SETs of the registers from a on stand at a place, the next register's does not follow at the place after them, and they are in the bank
-pub record SetsRun (s : List ℕ) (at a n after : ℕ) : Type 0 where
-  pub here : cmds_at s at ≡ puts a n ++ cmds_at s after
-  pub stops : (l : List Cmd) → cmds_at s after ≡ put (a + n) ∷ l → ⊥
-  pub inside : a + n ≤ 64
+-- n commands like a first one, each of the registers after the last one's
+abbrev pub stretch_of : Order → ℕ → List Cmd
+stretch_of (Put a) n = puts a n
+stretch_of (Move a f) n = moves a f n
+stretch_of Stop n = []
 
--- likewise n MOVEs of the registers from a on from those from f on
-pub record MovesRun (s : List ℕ) (at a f n after : ℕ) : Type 0 where
-  pub here : cmds_at s at ≡ moves a f n ++ cmds_at s after
-  pub stops : (l : List Cmd) → cmds_at s after ≡ move (a + n) (f + n) ∷ l → ⊥
-  pub inside : (a + n ≤ 64) × (f + n ≤ 64)
+-- a list that goes on with one more
+abbrev pub on_with : Order → ℕ → List Cmd → List Cmd
+on_with (Put a) n l = put (a + n) ∷ l
+on_with (Move a f) n l = move (a + n) (f + n) ∷ l
+on_with Stop n l = l
+
+-- n registers from the first one's on are in the bank
+abbrev pub Inside : Order → ℕ → Type 0
+Inside (Put a) n = a + n ≤ 64
+Inside (Move a f) n = (a + n ≤ 64) × (f + n ≤ 64)
+Inside Stop n = ⊥
+
+-- n commands like a first one stand at a place, no other follows at the place after them, and their registers are in the bank
+pub record Stretched (s : List ℕ) (at : ℕ) (first : Order) (n after : ℕ) : Type 0 where
+  pub here : cmds_at s at ≡ stretch_of first n ++ cmds_at s after
+  pub stops : (l : List Cmd) → cmds_at s after ≡ on_with first n l → ⊥
+  pub inside : Inside first n
 
 -- the list at a place begins with a SET of a register
 pub record Begins (s : List ℕ) (at a : ℕ) : Type 0 where
@@ -43,3 +51,10 @@ pub record Begins (s : List ℕ) (at a : ℕ) : Type 0 where
 pub record Sorted (s : List ℕ) (at k p : ℕ) : Type 0 where
   pub kind : k ≡ list_kind (cmds_at s at)
   pub spot : p ≡ points (cmds_at s at) at
+
+-- a kind's number in an entry
+abbrev pub kind_number : Kind → ℕ
+kind_number Alone = 0
+kind_number Block = 1
+kind_number Sets = 2
+kind_number Moves = 3

@@ -3,79 +3,94 @@
 
 mod sorts;
 
-ghost use Rattle.std.specs.Prelude.{◌≡◌, ◌<◌};
+ghost use Rattle.std.specs.Prelude.{◌≡◌, ◌<◌, length};
 ghost use Rattle.image.specs.Image.{entry, spot_at, entry_at, Imaged, Mounts};
-ghost use Rattle.image.specs.Need.{RowImaged, Room, Mountable};
+ghost use Rattle.answers.specs.Refusals.{number_of};
+ghost use Rattle.image.specs.Need.{kind_number, RowImaged, Mountable};
 
-use answers::OUT_SMALL;
+use answers::Refusal;
 use card::RowItem;
+use sorts::Sort;
+
+// Entries of a situation, and with its place its words.
+const ENTRIES: usize = 256;
+
+const WORDS: usize = 257;
+
+// Where the rows stand in a situation of the table, and the commands in a row.
+const ROWS: usize = 10;
+
+const CMDS: usize = 4;
+
+// What an entry points to, in two parts: the low bits and the others.
+const LOW: usize = 1 << 8;
+
+const OTHERS: usize = 1 << 15;
+
+// An entry's numbers in their bits: below these the low part of what it points to, then the next situation, the other part, and
+// the kind.
+const NEXT: u32 = 1 << 8;
+
+const HIGH: u32 = 1 << 15;
+
+const KIND: u32 = 1 << 30;
+
+// An entry of no row: to situation 0 without a command.
+const NO_ROW: u32 = 64;
 
 // The three numbers of an entry, each in its own bits; those of the last lie below and above the next situation.
-fn packed(next: u8, kind: u32, at: usize) -> u32
-    requires { kind < 4 }
-    ensures { result ≡ entry next kind at }
+#[tactic(auto, unfolding(crate::specs::Image::entry))]
+fn packed(next: u8, sort: Sort) -> u32
+    ensures { result ≡ entry next (kind_number sort.kind) sort.points }
 {
-    let n = (next % 128) as u32;
-    let low = (at % 256) as u32;
-    let high = (at / 256 % 32768) as u32;
-    low + 256 * n + 32768 * high + 1073741824 * kind
+    let low = (sort.points % LOW) as u32;
+    let high = (sort.points / LOW % OTHERS) as u32;
+    low + NEXT * u32::from(next % 128) + HIGH * high + KIND * (sort.kind as u32)
 }
 
 // The place of a byte's row, among the rows at a place.
+#[tactic(auto, using(crate::proofs::Spots::spots), unfolding(ground::specs::Pick::pick))]
 fn row_spot(s: &[u8], at: usize, b: usize) -> usize
     ensures { result ≡ spot_at s.now at b }
 {
     let mut i = at;
-    loop {
-        let row = card::read_row(s, i);
-        let RowItem::Leads(_, hi, _) = row else {
-            return s.len();
-        };
-        if b <= ground::wide(hi) {
+    // A loop: rows differ in length, so the next place is known only after the row's commands.
+    while let RowItem::Leads(_, hi, _) = card::read_row(s, i) {
+        if b <= usize::from(hi) {
             return i;
         }
-        i = card::skip_cmds(s, i + 4);
+        i = card::skip_cmds(s, i + CMDS);
     }
+    s.len()
 }
 
 // The entry of the row at a place.
+#[tactic(auto, using(run::proofs::Carrying::rows), unfolding(crate::specs::Image::entry_at))]
 fn entry_at(s: &[u8], at: usize) -> u32
     ensures { result ≡ entry_at s.now at }
 {
-    let row = card::read_row(s, at);
-    let RowItem::Leads(_, _, next) = row else {
-        return 64;
+    let RowItem::Leads(_, _, next) = card::read_row(s, at) else {
+        return NO_ROW;
     };
-    let l = sorts::list_sort(s, at + 4);
-    packed(next, l.kind, l.points)
+    packed(next, sorts::list_sort(s, at + CMDS))
 }
 
-// The 256 entries of the situation whose rows stand at a place, written from a place of the image on. Bytes rise, so
-// each looks for its row from the row of the byte before it, and a row's entry is made once.
-fn fill_row(s: &[u8], at: usize, image: &mut [u32], from: usize)
-    requires { Room image.old from }
-    ensures { RowImaged s.now at from 256 image.old image.new }
+// The 256 entries of the situation whose rows stand at a place. Bytes rise, so each looks for its row from the row of the byte
+// before it, and a row's entry is made once.
+fn fill_row(s: &[u8], at: usize, row: &mut [u32])
+    requires { length row.old ≡ 256 }
+    ensures { RowImaged s.now at row.new }
 {
     let mut i = at;
     let mut e = entry_at(s, at);
-    let mut b: usize = 0;
-    while b < 256 {
+    for (b, word) in row.iter_mut().enumerate() {
         let p = row_spot(s, i, b);
         if p != i {
             i = p;
             e = entry_at(s, p);
         }
-        image[from + b] = e;
-        b += 1;
+        *word = e;
     }
-}
-
-// A place of the table as an entry.
-fn place_word(p: usize) -> u32
-    requires { p < 8388608 }
-    ensures { result ≡ p }
-{
-    p as u32
 }
 
 // The whole image: the entries of each situation, and after all of them the places of the situations.
@@ -84,30 +99,22 @@ fn write_image(s: &[u8], places: &[usize; 96], image: &mut [u32])
     ensures { Imaged s.now image.old image.new }
 {
     let count = card::sit_count(s);
-    let mut q: usize = 0;
-    while q < count {
-        let p = places[q];
-        fill_row(s, p + 10, image, 256 * q);
-        image[256 * count + q] = place_word(p);
-        q += 1;
+    for (q, p) in places[..count].iter().enumerate() {
+        let from = ENTRIES * q;
+        fill_row(s, *p + ROWS, &mut image[from..from + ENTRIES]);
+        image[ENTRIES * count + q] = *p as u32;
     }
 }
 
 // Judges a table and writes its image: 13 and 14 as the loader judges, 12 where the image has no room for 257 numbers a
 // situation. A refusal leaves the image as it was.
-pub fn mount(table: &[u8], image: &mut [u32]) -> u8
-    ensures { Mounts table.now image.old image.new result }
+pub fn mount(table: &[u8], image: &mut [u32]) -> Result<(), Refusal>
+    ensures { Mounts table.now image.old image.new (number_of result) }
 {
-    let j = loader::judge(table);
-    let code = j.code;
-    if code != 0 {
-        return code;
+    let places = loader::judge(table)?;
+    if image.len() < WORDS * card::sit_count(table) {
+        return Err(Refusal::OutSmall);
     }
-    let count = card::sit_count(table);
-    if image.len() < 257 * count {
-        return OUT_SMALL;
-    }
-    let places = j.places;
     write_image(table, &places, image);
-    0
+    Ok(())
 }

@@ -106,11 +106,6 @@ module _
 
 -- ---- round after round until nothing changes
 
--- how far there is to go
-abbrev pub left : List ℕ → Bool → ℕ
-left seen true = suc (6144 - total seen)
-left seen false = 6144 - total seen
-
 zeros : (n i : ℕ) → ◌≡◌ {A = ℕ} (get_or (replicate n 0) i 0) 0
 zeros zero i = refl
 zeros (suc n) zero = refl
@@ -142,12 +137,9 @@ module _ (T : Table) where
     sent = λ q x i r b. absurd (no_bit q r b);
   }
 
-  less : {may seen seen₀ : List ℕ} (changed : Bool) → Sweep T may seen seen₀ changed → left seen changed < left seen₀ true
-  less true s = omega (arith, s.grows refl, under s.round.seen_words)
-  less false s = omega (arith, s.kept, under s.round.seen_words)
-
-  pub falls : {may seen seen₀ : List ℕ} {again changed : Bool} → again ≡ true → Sweep T may seen seen₀ changed → left seen changed < left seen₀ again
-  falls {may} {seen} {seen₀} {again} {changed} e s = subst (λ (b : Bool). left seen changed < left seen₀ b) (sym e) (less changed s)
+  -- how far there is to go falls
+  pub falls : {may seen seen₀ : List ℕ} {changed : Bool} → changed ≡ true → Sweep T may seen seen₀ changed → 6144 - total seen < 6144 - total seen₀
+  falls e s = omega (arith, s.grows e, under s.round.seen_words)
 
   pub settled : {may seen : List ℕ} → Round T may seen → Closed T may → Settled T may
   settled o c = record {

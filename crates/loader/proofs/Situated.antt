@@ -1,5 +1,5 @@
 -- The situations of a table that is ready: their places and their rows. Assumes nothing.
-use Prim.Native.Nat.{ℕ, zero, suc, ◌+◌, ◌-◌, ◌^◌, ◌<◌, ◌≤◌}
+use Prim.Native.Nat.{ℕ, ◌+◌, ◌-◌, ◌^◌, ◌<◌, ◌≤◌}
 use native.Mathlib.Omega.{arith}
 use native.Mathlib.Decide.{dec_lt}
 use borrow.Author.Count.{below_more}
@@ -8,34 +8,20 @@ use mathlib.Core.List.{List, [], ◌∷◌}
 use lib.ListN.{length, get_or, take, drop, get_or-eq_default}
 use Rattle.card.specs.Table.{Row, Sit, Table, Upward}
 use Rattle.card.specs.Run.{In, sit, no_sit}
-use Rattle.card.specs.Decode.{cmds_at, row_at, rows_at, after_at, after_rows, sit_at, sits_from, places_from, table_at, places_of}
+use Rattle.card.specs.Decode.{cmds_at, row_at, rows_at, after_at, sit_at, table_at}
 use Rattle.card.specs.declared.RowItem.{RowItem}
 use Rattle.card.specs.declared.RowItem.TheVariants.{Leads, Ends}
 use Rattle.card.proofs.Rows.{rows_step, row_whole}
+use Rattle.card.proofs.Situations.{sits_length, table_sit}
 use Rattle.loader.specs.Flow.{Loud, row, end, RowsOf, Ready, RowAsks, FieldAsks, Reads, written, flow, start_set}
 use Rattle.ground.specs.Bits.{bit_of}
 use Rattle.loader.proofs.Shape.{not_in, in_table, next_in}
 
 -- ---- the situations that a table's bytes hold
 
-sits_length : (n : ℕ) (s : List ℕ) (at : ℕ) → length (sits_from n s at) ≡ n
-unfolding sits_from
-sits_length zero s at = refl
-sits_length (suc n) s at = ap suc (sits_length n s (after_rows s (at + 10)))
-
-sit_placed : (n : ℕ) (s : List ℕ) (at q : ℕ) → q < n → get_or (sits_from n s at) q no_sit ≡ sit_at s (get_or (places_from n s at) q 0)
-unfolding sits_from places_from
-sit_placed zero s at q l = absurd (omega arith)
-sit_placed (suc n) s at zero l = refl
-sit_placed (suc n) s at (suc q) l = sit_placed n s (after_rows s (at + 10)) q (omega arith)
-
 pub table_long : (s : List ℕ) → length (table_at s).sits ≡ get_or s 4 0
 unfolding table_at
 table_long s = sits_length (get_or s 4 0) s (after_at s 5)
-
-pub sit_is : (s : List ℕ) (q : ℕ) → q < get_or s 4 0 → sit (table_at s) q ≡ sit_at s (get_or (places_of s) q 0)
-unfolding table_at places_of
-sit_is s q l = sit_placed (get_or s 4 0) s (after_at s 5) q l
 
 -- the start set, from the start's commands
 pub start_is : (s : List ℕ) {v k : ℕ} → v ≡ flow 0 (2 ^ 64 - 1) k → k ≡ written 0 (cmds_at s 5) → v ≡ start_set (table_at s)
@@ -57,7 +43,7 @@ rows_room s at n = by (row_at s at) refl
 
 module _ {s places : List ℕ} (ready : Ready s places) where
   pub sit_here : {q : ℕ} → q < get_or s 4 0 → sit (table_at s) q ≡ sit_at s (get_or places q 0)
-  sit_here {q} l = sit_is s q l ∙ ap (sit_at s) (sym (ready.placed q l))
+  sit_here {q} l = table_sit s q l ∙ ap (sit_at s) (sym (ready.placed q l))
 
   pub rows_here : {q : ℕ} → q < get_or s 4 0 → rows_at s (get_or places q 0 + 10) ≡ (sit (table_at s) q).rows
   unfolding sit_at

@@ -1,19 +1,21 @@
 -- The rows at a place, one after the other: those passed and those to come; and the fields at a place. Assumes nothing.
-use Prim.Native.Nat.{ℕ, zero, suc, ◌+◌, ◌^◌, ◌<◌, ◌≤◌}
+use Prim.Native.Nat.{ℕ, ◌+◌, ◌^◌, ◌<◌}
 use native.Mathlib.Omega.{arith}
 use mathlib.Core.Path.{◌≡◌, refl, sym, ◌∙◌, subst}
 use mathlib.Core.Logic.{◌⊎◌, inl, inr, ⊎_elim}
+use mathlib.Core.Bool.{Bool, true, false, ◌&&◌, ◌||◌}
+use borrow.Author.Tests.{ltb-true, eqb-true, lt-ltb, eq-eqb}
+use Rattle.ground.proofs.Tests.{true_false, both_yes}
 use mathlib.Core.List.{List, [], ◌∷◌}
-use lib.ListN.{length, get_or, take, drop, length-take, length-drop}
-use lib.Seq.{get_or-take, get_or-drop}
 use lib.Bits.{bit_and}
-use borrow.Author.Count.{below_more}
 use Rattle.card.specs.Table.{Cmd, Row}
 use Rattle.card.specs.Run.{In, hd, tl}
 use Rattle.card.specs.Decode.{cmds_at, after_at, row_at, rows_at}
 use Rattle.card.specs.declared.RowItem.TheVariants.{Leads, Ends}
 use Rattle.card.proofs.Rows.{rows_step}
-use Rattle.loader.specs.Flow.{Reads, asked, RowAsks, FieldAsks}
+use lib.Dec.{ltb, eqb}
+use Rattle.std.specs.List.{list_any}
+use Rattle.loader.specs.Flow.{Says, Reads, asked, RowAsks}
 use Rattle.ground.specs.Bits.{bit_of}
 use Rattle.ground.proofs.Masks.{not_both, bit_in, zero_bit, and_bits, and_bit}
 use Rattle.loader.proofs.Sets.{asked_reads, reads_asked}
@@ -32,7 +34,7 @@ Back s at i = (x : Row) → In x (rows_at s i) → In x (rows_at s at)
 abbrev pub Done : List ℕ → ℕ → ℕ → (Row → Type 0) → Type 0
 Done s at i P = (x : Row) → In x (rows_at s at) → In x (rows_at s i) ⊎ P x
 
-in_cons : {x y : Row} {l : List Row} → In x (y ∷ l) → (y ≡ x) ⊎ In x l
+in_cons : {A : Type 0} {x y : A} {l : List A} → In x (y ∷ l) → (y ≡ x) ⊎ In x l
 in_cons hd = inl refl
 in_cons (tl i) = inr i
 
@@ -89,45 +91,33 @@ no_asks s at m i e d a = all_done s at i e d a.0 a.1.0 a.1.1.0 a.1.1.1.0 a.1.1.1
 
 -- ---- the fields
 
-in_index : (l : List ℕ) (x : ℕ) → In x l → (j : ℕ) × ((j < length l) × (get_or l j 0 ≡ x))
-in_index [] x i = elim i [ ]
-in_index (y ∷ l) x hd = (0, (omega arith, refl))
-in_index (y ∷ l) x (tl i) = let k = in_index l x i in (suc k.0, (omega (arith, k.1.0), k.1.1))
+-- some field reads a register of the set
+abbrev pub FieldIn : ℕ → List ℕ → Type 0
+FieldIn m fs = (r : ℕ) × (In r fs × ((r ≡ 255 → ⊥) × (bit_of m r ≡ 1)))
 
-index_in : (l : List ℕ) (j : ℕ) → j < length l → In (get_or l j 0) l
-index_in [] j h = absurd (omega arith)
-index_in (y ∷ l) zero h = hd
-index_in (y ∷ l) (suc j) h = tl (index_in l j (omega arith))
+abbrev pub reads_of : (m f : ℕ) → Bool
+reads_of m f = ltb f 64 && eqb (bit_of m f) 1
 
--- the fields before t read no register of the set
-abbrev pub Unread : List ℕ → (at m t : ℕ) → Type 0
-Unread s at m t = (j : ℕ) → j < t → bit_of m (get_or s (at + j) 0) ≡ 1 → ⊥
+module _ (m : ℕ) (l : m < 2 ^ 64) where
+  read_yes : (x : ℕ) → reads_of m x ≡ true → (x ≡ 255 → ⊥) × (bit_of m x ≡ 1)
+  read_yes x e =
+      let b = both_yes (ltb x 64) (eqb (bit_of m x) 1) e in
+      let h = ltb-true x 64 b.0 in
+      ((λ z. omega arith), eqb-true _ _ b.1)
 
--- one field more
-pub next_field : (s : List ℕ) (at m t : ℕ) → Unread s at m t → (bit_of m (get_or s (at + t) 0) ≡ 1 → ⊥) → Unread s at m (t + 1)
-next_field s at m t u n = below_more (λ j. bit_of m (get_or s (at + j) 0) ≡ 1 → ⊥) t u n
+  read_no : (x : ℕ) → reads_of m x ≡ false → bit_of m x ≡ 1 → ⊥
+  read_no x e b = let h = lt-ltb x 64 (bit_in 64 m x l b) in let g = eq-eqb (bit_of m x) 1 b in true_false (sym (simp (h, g)) ∙ e)
 
-pub high_field : (m f : ℕ) → m < 2 ^ 64 → 64 ≤ f → bit_of m f ≡ 1 → ⊥
-high_field m f l h b = let k = bit_in 64 m f l b in omega arith
+  say_more : (x : ℕ) (fs : List ℕ) → (bit_of m x ≡ 1 → ⊥) → (b : Bool) → Says (FieldIn m fs) b → Says (FieldIn m (x ∷ fs)) b
+  say_more x fs n true a = (a.0, (tl a.1.0, a.1.1))
+  say_more x fs n false f =
+      λ a. ⊎_elim (λ (h : x ≡ a.0). n (rw h a.1.1.1)) (λ (h : In a.0 fs). f (a.0, (h, a.1.1))) (in_cons a.1.0)
 
-module _ (s : List ℕ) (at m : ℕ) (room : at + 8 ≤ length s) where
-  eight : length (take 8 (drop at s)) ≡ 8
-  eight = simp (length-take, length-drop) (omega arith)
+  say_first : (x : ℕ) (fs : List ℕ) (t b : Bool) → reads_of m x ≡ t → Says (FieldIn m fs) b → Says (FieldIn m (x ∷ fs)) (t || b)
+  say_first x fs true b e s = (x, (hd, read_yes x e))
+  say_first x fs false b e s = say_more x fs (read_no x e) b s
 
-  field : (j : ℕ) → j < 8 → get_or (take 8 (drop at s)) j 0 ≡ get_or s (at + j) 0
-  field j h = get_or-take 8 (drop at s) j 0 h ∙ get_or-drop at s j 0
-
-  pub field_asks : (t : ℕ) → t < 8 → get_or s (at + t) 0 < 64 → bit_of m (get_or s (at + t) 0) ≡ 1 → FieldAsks s at m
-  field_asks t h l b = (
-    get_or s (at + t) 0,
-    (
-      subst (λ (x : ℕ). In x (take 8 (drop at s))) (field t h) (index_in (take 8 (drop at s)) t (omega (arith, eight))),
-      ((λ e. omega arith), b),
-    ),
-  )
-
-  pub no_fields : (t : ℕ) → 8 ≤ t → Unread s at m t → FieldAsks s at m → ⊥
-  no_fields t h u a =
-      let k = in_index (take 8 (drop at s)) a.0 a.1.0 in
-      let l : k.0 < 8 = omega (arith, k.1.0, eight) in
-      u k.0 (omega arith) (subst (λ (x : ℕ). bit_of m x ≡ 1) (sym k.1.1 ∙ field k.0 l) a.1.1.1)
+  -- what a search of the fields finds
+  pub fields_say : (fs : List ℕ) → Says (FieldIn m fs) (list_any (reads_of m) fs)
+  fields_say [] = λ a. not_in a.1.0
+  fields_say (x ∷ fs) = say_first x fs (reads_of m x) _ refl (fields_say fs)

@@ -1,25 +1,27 @@
 // The loader: is a table's form right, and can a line make it read an empty register?
 #![tactic(auto)]
 
-ghost use Rattle.std.specs.Prelude.{◌≡◌, ◌+◌, ◌≤◌, ◌<◌, ◌^◌, length};
+ghost use Rattle.std.specs.Prelude.{◌≡◌, ◌==◌, ◌+◌, ◌≤◌, ◌<◌, ◌^◌, length, MatchResult};
 ghost use Rattle.card.specs.Decode.{table_at};
 ghost use Rattle.card.specs.Judged.{Judged};
 ghost use Rattle.loader.specs.Judges.{Judges};
 ghost use Rattle.loader.specs.Flow.{Listed, flow, Words, Flowed, Round, Sweep, Settled, Loud, EmptyRead, Says, RowsOf, Ready, RowAsks, FieldAsks};
 ghost use Rattle.ground.specs.Bits.{bit_of};
+ghost use Rattle.answers.specs.Refusals.{code_of, number_of};
 
-use answers::{EMPTY_READ, TABLE_FORM};
+use answers::Refusal;
 use card::{Order, RowItem};
 
 // A list of commands in short: the registers that it writes, those that it reads, and the place after it.
 #[derive(Clone, Copy)]
-pub struct Gist {
-    pub writes: u64,
-    pub reads: u64,
-    pub end: usize,
+struct Gist {
+    writes: u64,
+    reads: u64,
+    end: usize,
 }
 
 // The set of one register.
+#[tactic(auto, using(crate::proofs::Listing::one_bit))]
 fn bit(r: usize) -> u64
     requires { r < 64 }
     ensures { result ≡ 2 ^ r }
@@ -30,42 +32,40 @@ fn bit(r: usize) -> u64
 // Whether a register is in a set.
 fn holds(m: u64, r: usize) -> bool
     requires { r < 64 }
-    ensures { Says (bit_of m r ≡ 1) result }
+    ensures { result ≡ (bit_of m r == 1) }
 {
     (m >> r) % 2 == 1
 }
 
 // The list of commands at a place, in short.
+#[tactic(auto, using(card::proofs::Laws::move_facts, card::proofs::Laws::put_facts, crate::proofs::Listing::listing_none, crate::proofs::Listing::listing_stop))]
 fn list_at(s: &[u8], at: usize) -> Gist
     ensures { Listed s.now at result.writes result.reads result.end }
 {
-    let mut writes = 0u64;
-    let mut reads = 0u64;
-    let mut i = at;
+    let mut g = Gist {
+        writes: 0,
+        reads: 0,
+        end: at,
+    };
+    // A loop: commands differ in length, so the next place is known only after the command.
     loop {
-        let o = card::read_cmd(s, i);
-        match o {
+        match card::read_cmd(s, g.end) {
             Order::Move(to, from) => {
-                writes = writes | bit(to);
-                reads = reads | bit(from);
-                i += 3;
+                g.writes |= bit(to);
+                g.reads |= bit(from);
+                g.end += 3;
             }
             Order::Put(to) => {
-                writes = writes | bit(to);
-                i += 2;
+                g.writes |= bit(to);
+                g.end += 2;
             }
-            Order::Stop => {
-                return Gist {
-                    writes,
-                    reads,
-                    end: i,
-                };
-            }
+            Order::Stop => return g,
         }
     }
 }
 
 // What flows along a row: what may be empty before it and is not written by it.
+#[tactic(auto, unfolding(crate::specs::Flow::flow))]
 fn flowed(old: u64, x: u64, k: u64) -> u64
     ensures { result ≡ flow old x k }
 {
@@ -73,43 +73,37 @@ fn flowed(old: u64, x: u64, k: u64) -> u64
 }
 
 // The set of situation q flows along the rows at a place, which are its rows.
+#[tactic(auto, using(card::proofs::Rows::row_whole, crate::proofs::Flowing::flowing_none))]
 fn flow_rows(s: &[u8], at: usize, q: usize, may: &mut [u64; 96])
     requires { RowsOf s.now at q × Words may.old }
     ensures { Flowed s.now at q may.old may.new }
 {
     let x = may[q];
     let mut i = at;
-    loop {
-        let row = card::read_row(s, i);
-        let RowItem::Leads(_, _, next) = row else {
-            return;
-        };
+    // A loop here and in `rows_ask`: rows differ in length, so the next place is known only after the row's commands.
+    while let RowItem::Leads(_, _, next) = card::read_row(s, i) {
         let g = list_at(s, i + 4);
-        let n = next as usize;
-        let new = flowed(may[n], x, g.writes);
-        may[n] = new;
+        let n = usize::from(next);
+        may[n] = flowed(may[n], x, g.writes);
         i = g.end;
     }
 }
 
-// One round: each situation whose set has grown since its rows were last given it gives it to them again.
+// One round: each situation whose set has grown since its rows were last given it gives it to them again. Here and below
+// `s` and `places` stay two parameters: what is known of both, `Ready`, is no proposition, as a struct's ghost field asks.
+#[tactic(auto, using(crate::proofs::Sweeping::sweeping_none))]
 fn sweep(s: &[u8], places: &[usize; 96], may: &mut [u64; 96], seen: &mut [u64; 96]) -> bool
     requires { Ready s.now places.now × Round (table_at s.now) may.old seen.old }
     ensures { Sweep (table_at s.now) may.new seen.new seen.old result }
 {
-    let count = card::sit_count(s);
     let mut changed = false;
-    let mut q: usize = 0;
-    while q < count {
-        let old = seen[q];
-        let all = old | may[q];
-        if all != old {
+    for q in 0..card::sit_count(s) {
+        let all = seen[q] | may[q];
+        if all != seen[q] {
             seen[q] = all;
-            let at = places[q];
-            flow_rows(s, at + 10, q, may);
+            flow_rows(s, places[q] + 10, q, may);
             changed = true;
         }
-        q += 1;
     }
     changed
 }
@@ -121,31 +115,25 @@ fn settle(s: &[u8], places: &[usize; 96]) -> [u64; 96]
 {
     let mut may = [0u64; 96];
     let mut seen = [0u64; 96];
-    let g = list_at(s, 5);
-    may[0] = flowed(0, 0xffff_ffff_ffff_ffff, g.writes);
-    let mut again = true;
-    while again {
-        again = sweep(s, places, &mut may, &mut seen);
-    }
+    may[0] = flowed(0, u64::MAX, list_at(s, 5).writes);
+    while sweep(s, places, &mut may, &mut seen) {}
     may
 }
 
 // Whether a row at a place reads a register of a set.
+#[tactic(auto, using(card::proofs::Rows::row_whole))]
 fn rows_ask(s: &[u8], at: usize, m: u64) -> bool
     ensures { Says (RowAsks s.now at m) result }
 {
     let mut i = at;
-    loop {
-        let row = card::read_row(s, i);
-        let RowItem::Leads(_, _, _) = row else {
-            return false;
-        };
+    while let RowItem::Leads(_, _, _) = card::read_row(s, i) {
         let g = list_at(s, i + 4);
         if g.reads & m != 0 {
             return true;
         }
         i = g.end;
     }
+    false
 }
 
 // Whether one of the eight fields at a place reads a register of a set.
@@ -153,17 +141,9 @@ fn fields_ask(s: &[u8], at: usize, m: u64) -> bool
     requires { at + 8 ≤ length s.now }
     ensures { Says (FieldAsks s.now at m) result }
 {
-    let mut t: usize = 0;
-    while t < 8 {
-        let f = s[at + t] as usize;
-        if f < 64 {
-            if holds(m, f) {
-                return true;
-            }
-        }
-        t += 1;
-    }
-    false
+    s[at..at + 8]
+        .iter()
+        .any(|f| *f < 64 && holds(m, usize::from(*f)))
 }
 
 // Whether a situation reads a register of its set.
@@ -171,18 +151,13 @@ fn some_ask(s: &[u8], places: &[usize; 96], may: &[u64; 96]) -> bool
     requires { Ready s.now places.now }
     ensures { Says (Loud (table_at s.now) may.now) result }
 {
-    let count = card::sit_count(s);
-    let mut q: usize = 0;
-    while q < count {
+    // A `for`: that the places lie in the table is known of each situation, and not inside a closure of `any`.
+    for q in 0..card::sit_count(s) {
         let at = places[q];
         let m = may[q];
-        if fields_ask(s, at + 2, m) {
+        if fields_ask(s, at + 2, m) || rows_ask(s, at + 10, m) {
             return true;
         }
-        if rows_ask(s, at + 10, m) {
-            return true;
-        }
-        q += 1;
     }
     false
 }
@@ -196,38 +171,25 @@ fn empty_read(s: &[u8], places: &[usize; 96]) -> bool
     some_ask(s, places, &may)
 }
 
-// A table judged: the code, and the places of its situations where the form is right.
-#[derive(Clone, Copy)]
-pub struct Judgement {
-    pub code: u8,
-    pub places: [usize; 96],
-}
-
-// Judges any bytes, for a run that needs the places too.
-pub fn judge(table: &[u8]) -> Judgement
-    ensures { Judges table.now result.code result.places }
+// Judges any bytes, for a run that needs the places of the situations too.
+pub fn judge(table: &[u8]) -> Result<[usize; 96], Refusal>
+    ensures { MatchResult result (λ places. Judges table.now 0 places) (λ e. Judged table.now (code_of e)) }
 {
-    let mut places = [0usize; 96];
     if !card::form::form_ok(table) {
-        return Judgement {
-            code: TABLE_FORM,
-            places,
-        };
+        return Err(Refusal::TableForm);
     }
+    let mut places = [0usize; 96];
     card::places(table, &mut places);
     if empty_read(table, &places) {
-        return Judgement {
-            code: EMPTY_READ,
-            places,
-        };
+        return Err(Refusal::EmptyRead);
     }
-    Judgement { code: 0, places }
+    Ok(places)
 }
 
-// Judges any bytes: 0 for a table that is taken, 13 TABLE_FORM, 14 EMPTY_READ.
-pub fn load(table: &[u8]) -> u8
-    ensures { Judged table.now result }
+// Judges any bytes: a table that is taken, or TABLE_FORM, or EMPTY_READ.
+pub fn load(table: &[u8]) -> Result<(), Refusal>
+    ensures { Judged table.now (number_of result) }
 {
-    let j = judge(table);
-    j.code
+    judge(table)?;
+    Ok(())
 }

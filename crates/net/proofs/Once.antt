@@ -6,51 +6,61 @@ use Prim.Native.Nat.{ℕ, zero, suc, ◌-◌, ◌≤◌}
 use native.Mathlib.Omega.{arith}
 use lib.Dec.{ltb}
 use lib.ListN.{length, take, drop, replicate, take-append-drop}
+use Rattle.std.specs.Prelude.{Result, Ok, Err}
+use Rattle.answers.specs.Refusals as refusals
+use Rattle.answers.specs.Refusals.{number_of}
+use Rattle.answers.specs.declared.Refusal.{Refusal}
+use Rattle.answers.proofs.Refusals.{code_above_ok}
+use Rattle.answers.proofs.Refusals as numbers
 use Rattle.ground.specs.Pick.{pick}
 use Rattle.net.specs.Rec.{Rec, range, mask, fork, tag, end, rec}
 use Rattle.net.specs.Items.{net_at, starts, NetRead, net, refused, net_of, code_of}
-use Rattle.net.specs.Calls.{no_layout, LayoutOf}
-use Rattle.net.specs.Count.{one, count_below, not_bytes, rec_count, count_in, byte_count}
-use Rattle.net.specs.declared.Count.{Count}
+use Rattle.net.specs.Calls.{Laid, LayoutOf}
+use Rattle.net.specs.Count.{one, count_below, Count, not_bytes, rec_count, count_in, byte_count, counted}
 use Rattle.net.specs.declared.Layout.{Layout}
 use Rattle.net.proofs.Whole.{net_tags, net_recs}
 use Rattle.net.proofs.Inside.{net_length}
 
-layout : ℕ → ℕ → ℕ → List ℕ → Layout
-layout c t n o = record { code = c; tags = t; count = n; at = o }
-
-layout_parts : {c d t u n m : ℕ} {o r : List ℕ} → c ≡ d → t ≡ u → n ≡ m → o ≡ r → ◌≡◌ {A = Layout} record { code = c; tags = t; count = n; at = o } record { code = d; tags = u; count = m; at = r }
-unfolding layout
-layout_parts {c} {d} {t} {u} {n} {m} {o} {r} p q e f = ap (λ (x : ℕ). layout x t n o) p ∙ ap (λ (x : ℕ). layout d x n o) q ∙ ap₂ (λ (x : ℕ) (y : List ℕ). layout d u x y) e f
+layout_parts : {t u n m : ℕ} {o r : List ℕ} → t ≡ u → n ≡ m → o ≡ r → ◌≡◌ {A = Layout} record { tags = t; count = n; at = o } record { tags = u; count = m; at = r }
+layout_parts p q e = λ i. record { tags = p i; count = q i; at = e i }
 
 module _ (s : List ℕ) where
-  pub check_one : (a b : ℕ) → a ≡ code_of (net_of s) → b ≡ code_of (net_of s) → a ≡ b
-  check_one a b p q = p ∙ sym q
+  pub check_one : (a b : Result (Unit {0}) Refusal) → number_of a ≡ code_of (net_of s) → number_of b ≡ code_of (net_of s) → a ≡ b
+  check_one (Ok a) (Ok b) p q = refl
+  check_one (Ok a) (Err f) p q = absurd (omega (arith, code_above_ok f))
+  check_one (Err e) (Ok b) p q = absurd (omega (arith, code_above_ok e))
+  check_one (Err e) (Err f) p q = ap Err (numbers.code_one e f (p ∙ sym q))
 
-  pub byte_count_one : (index : ℕ) (a b : Count) → a ≡ byte_count s index → b ≡ byte_count s index → a ≡ b
-  byte_count_one index a b p q = p ∙ sym q
+  count_one : (a b : Result ℕ Refusal) → counted a ≡ counted b → a ≡ b
+  count_one (Ok a) (Ok b) p = ap (λ (c : Count). Ok c.count) p
+  count_one (Ok a) (Err f) p = absurd (omega (arith, ap (λ (c : Count). c.code) p, code_above_ok f))
+  count_one (Err e) (Ok b) p = absurd (omega (arith, ap (λ (c : Count). c.code) p, code_above_ok e))
+  count_one (Err e) (Err f) p = ap Err (numbers.code_one e f (ap (λ (c : Count). c.code) p))
 
-  module _ (a b : Layout) (p : LayoutOf s a) (q : LayoutOf s b) where
-    code_one : a.code ≡ b.code
-    code_one = p.code ∙ sym q.code
+  pub byte_count_one : (index : ℕ) (a b : Result ℕ Refusal) → counted a ≡ byte_count s index → counted b ≡ byte_count s index → a ≡ b
+  byte_count_one index a b p q = count_one a b (p ∙ sym q)
 
-    by_code : (k : ℕ) → a.code ≡ k → a ≡ b
-    by_code (suc k) e =
-        p.refused (λ z. omega arith) ∙ ap no_layout code_one ∙ sym (q.refused (λ z. omega (arith, code_one)))
-    by_code zero e =
-        let f : b.code ≡ 0 = sym code_one ∙ e in
-        let x = take a.count a.at in
-        let y = take b.count b.at in
-        let same : net a.tags (net_at s x) ≡ net b.tags (net_at s y) = sym (p.placed e).reads ∙ (q.placed f).reads in
-        let long : length x ≡ length y = sym (net_length s x) ∙ ap length (net_recs same) ∙ net_length s y in
-        let counts : a.count ≡ b.count = sym (p.counted e) ∙ long ∙ q.counted f in
-        let offs : x ≡ y = (p.placed e).follow ∙ ap (λ (n : ℕ). starts n s 4) long ∙ sym (q.placed f).follow in
-        let rest : drop a.count a.at ≡ drop b.count b.at = p.rest ∙ ap (λ (n : ℕ). replicate {A = ℕ} (64 - n) 0) counts ∙ sym q.rest in
-        let all : a.at ≡ b.at = sym (take-append-drop a.count a.at) ∙ ap₂ ◌++◌ offs rest ∙ take-append-drop b.count b.at in
-        layout_parts code_one (net_tags same) counts all
+  laid_one : (a b : Layout) → Laid s a → Laid s b → a ≡ b
+  laid_one a b p q =
+      let x = take a.count a.at in
+      let y = take b.count b.at in
+      let same : net a.tags (net_at s x) ≡ net b.tags (net_at s y) = sym p.placed.reads ∙ q.placed.reads in
+      let long : length x ≡ length y = sym (net_length s x) ∙ ap length (net_recs same) ∙ net_length s y in
+      let counts : a.count ≡ b.count = sym p.counted ∙ long ∙ q.counted in
+      let offs : x ≡ y = p.placed.follow ∙ ap (λ (n : ℕ). starts n s 4) long ∙ sym q.placed.follow in
+      let rest : drop a.count a.at ≡ drop b.count b.at = p.rest ∙ ap (λ (n : ℕ). replicate {A = ℕ} (64 - n) 0) counts ∙ sym q.rest in
+      let all : a.at ≡ b.at = sym (take-append-drop a.count a.at) ∙ ap₂ ◌++◌ offs rest ∙ take-append-drop b.count b.at in
+      layout_parts (net_tags same) counts all
 
-    pub places_one : a ≡ b
-    places_one = by_code a.code refl
+  not_both : (a : Layout) (e : Refusal) → Laid s a → refusals.code_of e ≡ code_of (net_of s) → ⊥
+  unfolding code_of
+  not_both a e p q = let z : refusals.code_of e ≡ 0 = q ∙ ap code_of p.placed.reads in omega (arith, code_above_ok e)
+
+  pub places_one : (a b : Result Layout Refusal) → LayoutOf s a → LayoutOf s b → a ≡ b
+  places_one (Ok a) (Ok b) p q = ap Ok (laid_one a b p q)
+  places_one (Ok a) (Err f) p q = absurd (not_both a f p q)
+  places_one (Err e) (Ok b) p q = absurd (not_both b e q p)
+  places_one (Err e) (Err f) p q = ap Err (numbers.code_one e f (p ∙ sym q))
 
 -- ---- "0 to 256"
 

@@ -1,11 +1,10 @@
 -- Document 01: "For a RANGE or MASK record, a call tells how many of the 256 bytes it takes, 0 to 256." Assumes nothing: these are definitions.
-use Rattle.std.specs.Prelude.{Bool, true, false, ◌&&◌, List, ℕ, zero, suc, ◌+◌, ◌≤◌, ltb, leb, eqb, length, take, drop}
+use Rattle.std.specs.Prelude.{Bool, true, false, ◌&&◌, List, ℕ, zero, suc, ◌+◌, ltb, leb, eqb, length, Result, Ok, Err}
+use Rattle.answers.specs.Refusals.{code_of}
+use Rattle.answers.specs.declared.Refusal.{Refusal}
 use Rattle.ground.specs.Pick.{pick}
 use Rattle.net.specs.Rec.{Rec, range, mask, fork, tag, end, rec, bit}
 use Rattle.net.specs.Items.{NetRead, net, refused, number, net_of}
-use Rattle.net.specs.declared.Count.{Count}
-use Rattle.net.specs.declared.Item.{Item}
-use Rattle.net.specs.declared.Item.TheVariants.{Range, Mask, Fork, Tag, End}
 
 abbrev pub one : Bool → ℕ
 one true = 1
@@ -21,6 +20,11 @@ between lo hi b = leb lo b && leb b hi
 
 abbrev pub bit_set : List ℕ → ℕ → Bool
 bit_set bits b = eqb (bit bits b) 1
+
+-- the number of the answer, and the count, which is 0 unless that is 0
+pub record Count : Type 0 where
+  pub code : ℕ
+  pub count : ℕ
 
 -- "NOT_BYTES: record absent, or neither RANGE nor MASK"; "Unless OK, lengths and counts are 0"
 abbrev pub refuse : ℕ → Count
@@ -45,18 +49,7 @@ count_in (net tags A) index = pick (ltb index (length A)) (rec_count (rec A inde
 unfoldable pub byte_count : List ℕ → ℕ → Count
 byte_count s index = count_in (net_of s) index
 
--- the record that an item of the reader stands for
-abbrev pub rec_shown : List ℕ → Item → Rec
-rec_shown s (Range lo hi next) = range lo hi next
-rec_shown s (Mask at next) = mask (take 32 (drop at s)) next
-rec_shown s (Fork first second) = fork first second
-rec_shown s (Tag t next) = tag t next
-rec_shown s (End answer) = end answer
-
--- what counting asks of an item: a RANGE has lo <= hi, and a MASK's bytes are in the file
-abbrev pub Countable : List ℕ → Item → Type 0
-Countable s (Range lo hi next) = lo ≤ hi
-Countable s (Mask at next) = at + 32 ≤ length s
-Countable s (Fork first second) = Unit {0}
-Countable s (Tag t next) = Unit {0}
-Countable s (End answer) = Unit {0}
+-- what the call hands back, as the two
+abbrev pub counted : Result ℕ Refusal → Count
+counted (Ok n) = record { code = 0; count = n }
+counted (Err e) = refuse (code_of e)

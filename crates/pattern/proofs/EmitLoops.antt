@@ -4,6 +4,7 @@ use mathlib.Core.Path.{◌≡◌, refl, sym, ap, subst, ◌∙◌}
 use mathlib.Core.List.{List, [], ◌++◌, append_assoc}
 use mathlib.Core.Bool.{true, false}
 use native.Mathlib.Omega.{arith}
+use Rattle.std.specs.Prelude.{Ok, Err}
 use lib.ListN.{length}
 use Rattle.ground.specs.Lists.{Wrote}
 use Rattle.ground.specs.Pick.{look}
@@ -14,24 +15,24 @@ use Rattle.pattern.specs.Pat.{start_at}
 use Rattle.pattern.specs.Pat.Pat.{Seq, Alt}
 use Rattle.pattern.specs.Reader.{Lvl, alts, seq, piece, stops, read}
 use Rattle.pattern.specs.Writing.{coded, Room}
-use Rattle.pattern.specs.Measured.{measured, seq_sum, rep_sum}
+use Rattle.pattern.specs.Measured.{Read, measured, seq_sum, rep_sum}
+use Rattle.pattern.specs.declared.Fault.{Fault}
 use Rattle.pattern.specs.declared.reading.Sum.{Sum}
-use Rattle.pattern.specs.declared.reading.Read.{Read}
-use Rattle.pattern.specs.declared.reading.Read.TheVariants.{Ok, Form, Deep}
 use Rattle.pattern.proofs.Laws.{byte_of}
-use Rattle.pattern.proofs.Steps.{Refused, inv, far, added, alts_before, seq_before}
+use Rattle.pattern.proofs.Steps.{inv, far, added, alts_before, seq_before}
 use Rattle.pattern.proofs.EmitSteps.{Is, is_inv, sized_is, sized_of, alt_coded, alt_fork, alt_first, alt_second, seq_coded, seq_first, seq_second, room_same, room_moved, wrote_same, wrote_whole, wrote_empty, forked, below, alts_is_one, alts_is, seq_is_none, seq_is}
 
 -- what is left of measures after those of a part
 record Rest (m : Sum) (r : Read) (e : ℕ) (m' : Sum) : Type 0 where
   pub sum : Sum
-  pub is : Ok e sum ≡ r
+  pub is : Ok (e, sum) ≡ r
   pub parts : m' ≡ seq_sum m sum
 
-rest_of : (m : Sum) (r : Read) {e : ℕ} {m' : Sum} → Ok e m' ≡ added m r → Rest m r e m'
-rest_of m (Ok e x) h = record { sum = x; is = cc; parts = cc }
-rest_of m (Form q) h = absurd (subst Refused (sym h) tt)
-rest_of m (Deep q) h = absurd (subst Refused (sym h) tt)
+rest_of : (m : Sum) (r : Read) {e : ℕ} {m' : Sum} → Ok (e, m') ≡ added m r → Rest m r e m'
+rest_of m (Ok x) {e = e} {m' = m'} h =
+    let z : ◌≡◌ {A = ℕ × Sum} (e, m') (x.0, seq_sum m x.1) = cc in
+    record { sum = x.1; is = ap (λ n. Ok (n, x.1)) (ap (λ y. y.0) z); parts = ap (λ y. y.1) z }
+rest_of m (Err f) h = cc
 
 -- A loop that writes a level from i on has come to j, with record k to be written at p: what it wrote and what is left make the whole.
 pub record Sent (s : List ℕ) (l : Lvl) (d i n f o : ℕ) (b₀ : List ℕ) (last j k p : ℕ) (b : List ℕ) : Type 0 where
@@ -39,26 +40,26 @@ pub record Sent (s : List ℕ) (l : Lvl) (d i n f o : ℕ) (b₀ : List ℕ) (la
   pub within : j ≤ length s
   pub end : ℕ
   pub sum : Sum
-  pub rest : Ok end sum ≡ measured (read s l d j)
+  pub rest : Ok (end, sum) ≡ measured (read s l d j)
   pub count : k + sum.size ≡ last
   pub done : List ℕ
   pub wrote : Wrote b₀ b o p done
   pub whole : coded (read s l d i) n f ≡ done ++ coded (read s l d j) k f
   pub room : Room (read s l d j) k f p (length b)
 
-pub sent_none : (s : List ℕ) (l : Lvl) (d i n f o : ℕ) (b : List ℕ) (last e : ℕ) (m : Sum) → i ≤ length s → Ok e m ≡ measured (read s l d i) → last ≡ n + m.size → Room (read s l d i) n f o (length b) → Sent s l d i n f o b last i n o b
-sent_none s l d i n f o b last e m h q z r = record { after = omega arith; within = h; end = e; sum = m; rest = q; count = sym z; done = []; wrote = wrote_none b o; whole = refl; room = r }
+pub sent_none : (s : List ℕ) (l : Lvl) (d i n f o : ℕ) (b : List ℕ) (last : ℕ) {e : ℕ} {m : Sum} → i ≤ length s → Ok (e, m) ≡ measured (read s l d i) → last ≡ n + m.size → Room (read s l d i) n f o (length b) → Sent s l d i n f o b last i n o b
+sent_none s l d i n f o b last {e = e} {m = m} h q z r = record { after = omega arith; within = h; end = e; sum = m; rest = q; count = sym z; done = []; wrote = wrote_none b o; whole = refl; room = r }
 
 module _ {s : List ℕ} {l : Lvl} {d i n f o : ℕ} {b₀ : List ℕ} {last j k p : ℕ} {b : List ℕ} (a : Sent s l d i n f o b₀ last j k p b) where
   -- what was measured as a whole is refused nowhere
-  pub sent_whole : (r : Read) → Refused r → r ≡ measured (read s l d j) → ⊥
-  sent_whole r x q = subst Refused (q ∙ sym a.rest) x
+  pub sent_whole : {e : Fault} → Err e ≡ measured (read s l d j) → ⊥
+  sent_whole q = let z = q ∙ sym a.rest in cc
 
   -- the records' numbers are bytes
   pub sent_below : last < 256
   sent_below =
       let z = a.room.numbers in
-      let y = sized_is (read s l d j) _ (is_inv (read s l d j) a.end a.sum a.rest) ∙ sized_of (read s l d j) a.rest in
+      let y = sized_is (read s l d j) _ (is_inv (read s l d j) a.rest) ∙ sized_of (read s l d j) a.rest in
       let c = a.count in
       omega arith
 
@@ -70,9 +71,9 @@ module _ {s : List ℕ} {d i n f o : ℕ} {b₀ : List ℕ} {last j k p : ℕ} {
   pub seq_ends : stops (look s j) ≡ true → Wrote b₀ b o p (coded (read s seq d i) n f)
   seq_ends t = sent_all a p b (wrote_empty b p k f (read s seq d j) (seq_is_none s d j a.within t))
 
-  module _ (go : stops (look s j) ≡ false) (e : ℕ) (m : Sum) (q : Ok e m ≡ measured (read s piece d j)) where
+  module _ (go : stops (look s j) ≡ false) {e : ℕ} {m : Sum} (q : Ok (e, m) ≡ measured (read s piece d j)) where
     to_come : Rest m (measured (read s seq d e)) a.end a.sum
-    to_come = rest_of m _ (a.rest ∙ seq_before s d j a.within go e m q)
+    to_come = rest_of m _ (a.rest ∙ seq_before s d j a.within go q)
 
     counted : a.sum.size ≡ m.size + to_come.sum.size
     counted = ap (λ x. x.size) to_come.parts
@@ -84,13 +85,13 @@ module _ {s : List ℕ} {d i n f o : ℕ} {b₀ : List ℕ} {last j k p : ℕ} {
     left_size = let c = a.count in let g = counted in omega arith
 
     first_is : Is (read s piece d j) (inv (read s piece d j) q).pat
-    first_is = is_inv (read s piece d j) e m q
+    first_is = is_inv (read s piece d j) q
 
     rest_is : Is (read s seq d e) (inv (read s seq d e) to_come.is).pat
-    rest_is = is_inv (read s seq d e) a.end to_come.sum to_come.is
+    rest_is = is_inv (read s seq d e) to_come.is
 
     both_is : Is (read s seq d j) (Seq (inv (read s piece d j) q).pat (inv (read s seq d e) to_come.is).pat)
-    both_is = seq_is s d j a.within go e m q a.end to_come.sum to_come.is
+    both_is = seq_is s d j a.within go q to_come.is
 
     module _ (x : ℕ) (z : x ≡ start_at (last - (k + m.size)) (k + m.size) f) where
       follows : x ≡ start_at to_come.sum.size (k + m.size) f
@@ -104,7 +105,7 @@ module _ {s : List ℕ} {d i n f o : ℕ} {b₀ : List ℕ} {last j k p : ℕ} {
       pub seq_sent : (p' : ℕ) (b' : List ℕ) → Wrote b b' p p' (coded (read s piece d j) k x) → Sent s seq d i n f o b₀ last e (k + m.size) p' b'
       seq_sent p' b' w =
           let v = subst (λ (y : ℕ). Wrote b b' p p' (coded (read s piece d j) k y)) follows w in
-          let g = far s d j a.within piece e m q in
+          let g = far s d j a.within piece q in
           let u = a.after in
           record {
             after = omega arith;
@@ -124,22 +125,22 @@ module _ {s : List ℕ} {d i n f o : ℕ} {b₀ : List ℕ} {last j k p : ℕ} {
                 (seq_second (read s seq d j) (read s piece d j) (read s seq d e) _ _ first_is rest_is k f _ _ (sized_of (read s piece d j) q) (sized_of (read s seq d e) to_come.is) both_is p (length b) a.room);
           }
 
-module _ {s : List ℕ} {d i n f o : ℕ} {b₀ : List ℕ} {last j k p : ℕ} {b : List ℕ} (a : Sent s alts d i n f o b₀ last j k p b) (e : ℕ) (m : Sum) (q : Ok e m ≡ measured (read s seq d j)) where
+module _ {s : List ℕ} {d i n f o : ℕ} {b₀ : List ℕ} {last j k p : ℕ} {b : List ℕ} (a : Sent s alts d i n f o b₀ last j k p b) {e : ℕ} {m : Sum} (q : Ok (e, m) ≡ measured (read s seq d j)) where
   one_is : Is (read s seq d j) (inv (read s seq d j) q).pat
-  one_is = is_inv (read s seq d j) e m q
+  one_is = is_inv (read s seq d j) q
 
   -- the last alternative
   module _ (no : look s e ≡ 124 → ⊥) where
     pub alts_last : Room (read s seq d j) k f p (length b)
-    alts_last = room_same (read s alts d j) (read s seq d j) _ k f p (length b) (alts_is_one s d j a.within e m q no) one_is a.room
+    alts_last = room_same (read s alts d j) (read s seq d j) _ k f p (length b) (alts_is_one s d j a.within q no) one_is a.room
 
     pub alts_end : (p' : ℕ) (b' : List ℕ) → Wrote b b' p p' (coded (read s seq d j) k f) → Wrote b₀ b' o p' (coded (read s alts d i) n f)
-    alts_end p' b' w = sent_all a p' b' (wrote_same b b' p p' (read s alts d j) (read s seq d j) _ k f (alts_is_one s d j a.within e m q no) one_is w)
+    alts_end p' b' w = sent_all a p' b' (wrote_same b b' p p' (read s alts d j) (read s seq d j) _ k f (alts_is_one s d j a.within q no) one_is w)
 
   -- an alternative that others follow
   module _ (bar : look s e ≡ 124) where
     to_follow : Rest (rep_sum m) (measured (read s alts d (e + 1))) a.end a.sum
-    to_follow = rest_of (rep_sum m) _ (a.rest ∙ alts_before s d j a.within e m q bar)
+    to_follow = rest_of (rep_sum m) _ (a.rest ∙ alts_before s d j a.within q bar)
 
     summed : a.sum.size ≡ m.size + 1 + to_follow.sum.size
     summed = ap (λ x. x.size) to_follow.parts
@@ -151,10 +152,10 @@ module _ {s : List ℕ} {d i n f o : ℕ} {b₀ : List ℕ} {last j k p : ℕ} {
     others_size = let c = a.count in let g = summed in omega arith
 
     others_is : Is (read s alts d (e + 1)) (inv (read s alts d (e + 1)) to_follow.is).pat
-    others_is = is_inv (read s alts d (e + 1)) a.end to_follow.sum to_follow.is
+    others_is = is_inv (read s alts d (e + 1)) to_follow.is
 
     all_is : Is (read s alts d j) (Alt (inv (read s seq d j) q).pat (inv (read s alts d (e + 1)) to_follow.is).pat)
-    all_is = alts_is s d j a.within e m q bar a.end to_follow.sum to_follow.is
+    all_is = alts_is s d j a.within q bar to_follow.is
 
     module _ (x y : ℕ) (ex : x ≡ start_at m.size (k + 1) f) (ey : y ≡ start_at (last - (k + 1 + m.size)) (k + 1 + m.size) f) where
       second : y ≡ start_at to_follow.sum.size (k + 1 + m.size) f
@@ -174,7 +175,7 @@ module _ {s : List ℕ} {d i n f o : ℕ} {b₀ : List ℕ} {last j k p : ℕ} {
         pub alts_sent : (p₂ : ℕ) (b₂ : List ℕ) → Wrote b₁ b₂ p₁ p₂ (coded (read s seq d j) (k + 1) f) → Sent s alts d i n f o b₀ last (e + 1) (k + 1 + m.size) p₂ b₂
         alts_sent p₂ b₂ w₂ =
             let v = wrote_then _ _ (forked _ _ _ _ _ _ _ _ ex second w₁) w₂ in
-            let g = far s d j a.within seq e m q in
+            let g = far s d j a.within seq q in
             let u = a.after in
             let t = byte_of s e 124 (omega arith) bar in
             record {

@@ -11,15 +11,13 @@ use Rattle.ground.proofs.Bits.{flag_test}
 use Rattle.ground.specs.Pick.{look}
 use Rattle.net.specs.Rec.{mask}
 use Rattle.net.specs.File.{rec_bytes}
-use Rattle.pattern.specs.Pat.Pat.{Set}
+use Rattle.pattern.specs.Pat.{Pat}
 use Rattle.pattern.specs.Sets as sets
 use Rattle.pattern.specs.Sets.{Item, listed, flipped, allows, octet, octets, mask_of}
 use Rattle.pattern.specs.Reader.{ok, set_read, set_at}
 use Rattle.pattern.specs.Standing.{Marks, Listed, boxed}
 use Rattle.pattern.specs.Writing.{shown}
-use Rattle.pattern.specs.Measured.{measured}
-use Rattle.pattern.specs.declared.reading.Sum.{Sum}
-use Rattle.pattern.specs.declared.reading.Read.TheVariants.{Ok, Form}
+use Rattle.pattern.specs.Atoms.{Boxed, bits_of}
 use Rattle.pattern.proofs.Masks.{octets_long}
 use Rattle.pattern.proofs.Steps.{set_boxed}
 
@@ -40,23 +38,16 @@ marks_show : (caret : Bool) (m : List ℕ) (xs : List Item) → Marks m xs → (
 unfolding allows
 marks_show caret m xs h b l = ap (flipped caret) (sym (ap (λ v. eqb v 1) (h.right b l) ∙ flag_test (listed b xs)))
 
-read_mask : (caret : Bool) (z : sets.Scanned) (m : List ℕ) (e : ℕ) (u : Sum) → Ok e u ≡ measured (set_read caret z) → Listed m z → set_read caret z ≡ ok e (Set (octets (shown caret m) 32 0))
-unfolding measured mask_of Listed
-read_mask caret (sets.listing e' xs) m e u q h =
-    ap (λ l. ok e' (Set l)) (octets_same (allows caret xs) (shown caret m) (marks_show caret m xs h) 32 0 (omega arith)) ∙ ap (λ n. ok n (Set (octets (shown caret m) 32 0))) (ends q)
-  where
-    ends : {x : Sum} → Ok e u ≡ Ok e' x → e' ≡ e
-    ends y = cc
-read_mask caret (sets.wrong q') m e u q h = absurd (differ q)
-  where
-    differ : Ok e u ≡ Form q' → ⊥
-    differ y = let k : ◌≡◌ {A = ℕ} 0 1 = cc in omega arith
+read_mask : (caret : Bool) (z : sets.Scanned) (m : List ℕ) (e : ℕ) (p : Pat) → set_read caret z ≡ ok e p → Listed m z → bits_of (set_read caret z) ≡ octets (shown caret m) 32 0
+unfolding mask_of Listed
+read_mask caret (sets.listing e' xs) m e p q h = octets_same (allows caret xs) (shown caret m) (marks_show caret m xs h) 32 0 (omega arith)
+read_mask caret (sets.wrong q') m e p q h = cc
 
 -- a set that was read, and its marks
-pub set_mask : (s : List ℕ) (i : ℕ) (m : List ℕ) (e : ℕ) (u : Sum) (caret : Bool) → eqb (look s (i + 1)) 94 ≡ caret → Ok e u ≡ measured (set_at s i) → Listed m (boxed s i) → set_at s i ≡ ok e (Set (octets (shown caret m) 32 0))
-set_mask s i m e u caret c q h =
-    set_boxed s i ∙ read_mask (eqb (look s (i + 1)) 94) (boxed s i) m e u (q ∙ ap measured (set_boxed s i)) h
-    ∙ ap (λ t. ok e (Set (octets (shown t m) 32 0))) c
+pub set_mask : (s : List ℕ) (i : ℕ) (m : List ℕ) (caret : Bool) → eqb (look s (i + 1)) 94 ≡ caret → Boxed s i → Listed m (boxed s i) → bits_of (set_at s i) ≡ octets (shown caret m) 32 0
+set_mask s i m caret c b h =
+    let e = set_boxed s i in
+    ap bits_of e ∙ read_mask (eqb (look s (i + 1)) 94) (boxed s i) m b.end _ (sym e ∙ b.is) h ∙ ap (λ t. octets (shown t m) 32 0) c
 
 -- no byte is marked at first
 pub marks_none : Marks (replicate 256 0) []

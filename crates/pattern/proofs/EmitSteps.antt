@@ -4,43 +4,40 @@ use mathlib.Core.Path.{◌≡◌, refl, sym, ap, subst, ◌∙◌}
 use mathlib.Core.List.{List, [], ◌∷◌, ◌++◌}
 use mathlib.Core.Bool.{true, false}
 use native.Mathlib.Omega.{arith}
+use Rattle.std.specs.Prelude.{Ok, Err}
 use lib.ListN.{length, length-append}
-use borrow.Author.Tests.{eq-eqb, ne_eqb}
+use lib.Dec.{eqb}
+use borrow.Author.Tests.{eq-eqb}
 use Rattle.ground.specs.Lists.{Wrote}
 use Rattle.ground.specs.Pick.{look}
 use Rattle.ground.proofs.Lists.{each_append}
-use Rattle.ground.proofs.Stores.{wrote_none, wrote_then}
+use Rattle.ground.proofs.Stores.{wrote_none}
 use Rattle.net.specs.Rec.{Rec, fork}
 use Rattle.net.specs.File.{rec_bytes}
 use Rattle.pattern.specs.Pat.{Pat, size, start_at, compile}
 use Rattle.pattern.specs.Pat.Pat.{Empty, Seq, Alt, Star, Plus, Opt}
-use Rattle.pattern.specs.Reader.{Res, ok, form, deep, alts, seq, piece, atom, and_then, read, stops, repeated, plus?, opt?, closed}
+use Rattle.pattern.specs.Reader.{Res, ok, form, deep, alts, seq, piece, atom, and_then, read, stops, repeating, repeated, closed}
 use Rattle.pattern.specs.Writing.{bytes, coded, sized, Room}
 use Rattle.pattern.specs.Measured.{measured}
+use Rattle.pattern.specs.declared.Fault.{Fault}
 use Rattle.pattern.specs.declared.reading.Sum.{Sum}
-use Rattle.pattern.specs.declared.reading.Read.{Read}
-use Rattle.pattern.specs.declared.reading.Read.TheVariants.{Ok}
 use Rattle.pattern.proofs.Laws.{alts_one, alts_more, seq_none, seq_some, piece_ok, atom_closed}
-use Rattle.pattern.proofs.Steps.{Refused, inv}
+use Rattle.pattern.proofs.Steps.{inv, once}
 use Rattle.pattern.proofs.Emit.{start_below}
 
 pub bytes_append : (a b : List Rec) → bytes (a ++ b) ≡ bytes a ++ bytes b
 unfolding bytes
 bytes_append a b = each_append rec_bytes a b
 
--- one run after the other
-pub chained : (a b c : List ℕ) (o o' o'' : ℕ) (v w : List ℕ) → Wrote a b o o' v → Wrote b c o' o'' w → Wrote a c o o'' (v ++ w)
-chained a b c o o' o'' v w x y = wrote_then v w x y
-
 -- refused: nothing is written
-coded_refused : (a : Read) (r : Res) (n f : ℕ) → Refused a → a ≡ measured r → coded r n f ≡ []
+coded_refused : (r : Res) (n f : ℕ) {e : Fault} → Err e ≡ measured r → coded r n f ≡ []
 unfolding measured coded
-coded_refused a (ok e p) n f x h = absurd (subst Refused h x)
-coded_refused a (form q) n f x h = refl
-coded_refused a (deep q) n f x h = refl
+coded_refused (ok e p) n f h = cc
+coded_refused (form q) n f h = refl
+coded_refused (deep q) n f h = refl
 
-pub wrote_refused : (l : List ℕ) (o n f : ℕ) (a : Read) (r : Res) → Refused a → a ≡ measured r → Wrote l l o o (coded r n f)
-wrote_refused l o n f a r x h = subst (Wrote l l o o) (sym (coded_refused a r n f x h)) (wrote_none l o)
+pub wrote_refused : (l : List ℕ) (o n f : ℕ) (r : Res) {e : Fault} → Err e ≡ measured r → Wrote l l o o (coded r n f)
+wrote_refused l o n f r h = subst (Wrote l l o o) (sym (coded_refused r n f h)) (wrote_none l o)
 
 -- the same pattern is written the same
 pub record Is (r : Res) (p : Pat) : Type 0 where
@@ -126,9 +123,6 @@ module _ (r r₁ : Res) (p : Pat) (x₁ : Is r₁ p) (n f g a b : ℕ) (y : size
   fork_then = let k = m.room in let e = ap length z in let w = m.numbers in record { room = omega arith; numbers = omega arith; follow = h }
 
 module _ (r r₁ : Res) (p : Pat) (x₁ : Is r₁ p) (n f n₁ : ℕ) (s₁ : size p ≡ n₁) where
-  pub sized_one : sized r₁ ≡ n₁
-  sized_one = sized_is r₁ p x₁ ∙ s₁
-
   module _ (x : Is r (Star p)) where
     pub star_sized : sized r ≡ sized r₁ + 1
     star_sized = sized_is r (Star p) x ∙ ap (λ k. k + 1) (sym (sized_is r₁ p x₁))
@@ -164,53 +158,45 @@ module _ (r r₁ : Res) (p : Pat) (x₁ : Is r₁ p) (n f n₁ : ℕ) (s₁ : si
       plus_fork = let k = m.room in let e = plus_length in let w = m.numbers in let y = plus_sized in (omega arith, start_below n₁ n (n + n₁) 256 (omega arith) (omega arith), m.follow)
 
 -- What was read, from the answers.
-pub is_inv : (r : Res) (e : ℕ) (m : Sum) (q : Ok e m ≡ measured r) → Is r (inv r q).pat
-is_inv r e m q = record { end = e; was = (inv r q).is }
+pub is_inv : (r : Res) {e : ℕ} {m : Sum} (q : Ok (e, m) ≡ measured r) → Is r (inv r q).pat
+is_inv r {e = e} q = record { end = e; was = (inv r q).is }
 
 module _ (s : List ℕ) (d i : ℕ) (h : i ≤ length s) where
-  module _ (e : ℕ) (m : Sum) (q : Ok e m ≡ measured (read s seq d i)) where
+  module _ {e : ℕ} {m : Sum} (q : Ok (e, m) ≡ measured (read s seq d i)) where
     pub alts_is_one : (look s e ≡ 124 → ⊥) → Is (read s alts d i) (inv (read s seq d i) q).pat
     alts_is_one b = let v = inv (read s seq d i) q in record { end = e; was = alts_one s d i h e v.pat v.is b }
 
-    pub alts_is : look s e ≡ 124 → (e' : ℕ) (m' : Sum) (q' : Ok e' m' ≡ measured (read s alts d (e + 1))) → Is (read s alts d i) (Alt (inv (read s seq d i) q).pat (inv (read s alts d (e + 1)) q').pat)
-    alts_is b e' m' q' =
+    pub alts_is : look s e ≡ 124 → {e' : ℕ} {m' : Sum} (q' : Ok (e', m') ≡ measured (read s alts d (e + 1))) → Is (read s alts d i) (Alt (inv (read s seq d i) q).pat (inv (read s alts d (e + 1)) q').pat)
+    alts_is b {e' = e'} q' =
         let v = inv (read s seq d i) q in let w = inv (read s alts d (e + 1)) q' in
         record { end = e'; was = alts_more s d i h e v.pat v.is b ∙ ap (λ r. and_then r (λ e' p. ok e' (Alt v.pat p))) w.is }
 
   pub seq_is_none : stops (look s i) ≡ true → Is (read s seq d i) Empty
   seq_is_none b = record { end = i; was = seq_none s d i h b }
 
-  pub seq_is : stops (look s i) ≡ false → (e : ℕ) (m : Sum) (q : Ok e m ≡ measured (read s piece d i)) (e' : ℕ) (m' : Sum) (q' : Ok e' m' ≡ measured (read s seq d e)) → Is (read s seq d i) (Seq (inv (read s piece d i) q).pat (inv (read s seq d e) q').pat)
-  seq_is b e m q e' m' q' =
+  pub seq_is : stops (look s i) ≡ false → {e : ℕ} {m : Sum} (q : Ok (e, m) ≡ measured (read s piece d i)) {e' : ℕ} {m' : Sum} (q' : Ok (e', m') ≡ measured (read s seq d e)) → Is (read s seq d i) (Seq (inv (read s piece d i) q).pat (inv (read s seq d e) q').pat)
+  seq_is b {e = e} q {e' = e'} q' =
       let v = inv (read s piece d i) q in let w = inv (read s seq d e) q' in
       record { end = e'; was = seq_some s d i h b ∙ ap (λ r. and_then r (λ e p. and_then (read s seq d e) (λ e' q. ok e' (Seq p q)))) v.is ∙ ap (λ r. and_then r (λ e' p. ok e' (Seq v.pat p))) w.is }
 
-  module _ (e : ℕ) (m : Sum) (q : Ok e m ≡ measured (read s atom d i)) where
+  module _ {e : ℕ} {m : Sum} (q : Ok (e, m) ≡ measured (read s atom d i)) where
+    piece_at : (c : ℕ) → look s e ≡ c → read s piece d i ≡ repeated (eqb c 42) c e (inv (read s atom d i) q).pat
+    piece_at c b = let v = inv (read s atom d i) q in piece_ok s d i h e v.pat v.is ∙ ap (λ x. repeated (eqb x 42) x e v.pat) b
+
     pub piece_is_star : look s e ≡ 42 → Is (read s piece d i) (Star (inv (read s atom d i) q).pat)
-    piece_is_star b = let v = inv (read s atom d i) q in record { end = e + 1; was = piece_ok s d i h e v.pat v.is ∙ ap (λ x. repeated x (look s e) e v.pat) (eq-eqb _ _ b) }
+    piece_is_star b = record { end = e + 1; was = piece_at 42 b }
 
-    module _ (b : look s e ≡ 42 → ⊥) where
-      pub piece_is_plus : look s e ≡ 43 → Is (read s piece d i) (Plus (inv (read s atom d i) q).pat)
-      piece_is_plus k = let v = inv (read s atom d i) q in record {
-        end = e + 1;
-        was = piece_ok s d i h e v.pat v.is ∙ ap (λ x. repeated x (look s e) e v.pat) (ne_eqb _ _ b) ∙ ap (λ x. plus? x (look s e) e v.pat) (eq-eqb _ _ k);
-      }
+    pub piece_is_plus : look s e ≡ 43 → Is (read s piece d i) (Plus (inv (read s atom d i) q).pat)
+    piece_is_plus b = record { end = e + 1; was = piece_at 43 b }
 
-      module _ (k : look s e ≡ 43 → ⊥) where
-        pub piece_is_opt : look s e ≡ 63 → Is (read s piece d i) (Opt (inv (read s atom d i) q).pat)
-        piece_is_opt j = let v = inv (read s atom d i) q in record {
-          end = e + 1;
-          was = piece_ok s d i h e v.pat v.is ∙ ap (λ x. repeated x (look s e) e v.pat) (ne_eqb _ _ b) ∙ ap (λ x. plus? x (look s e) e v.pat) (ne_eqb _ _ k) ∙ ap (λ x. opt? x e v.pat) (eq-eqb _ _ j);
-        }
+    pub piece_is_opt : look s e ≡ 63 → Is (read s piece d i) (Opt (inv (read s atom d i) q).pat)
+    piece_is_opt b = record { end = e + 1; was = piece_at 63 b }
 
-        pub piece_is_one : (look s e ≡ 63 → ⊥) → Is (read s piece d i) (inv (read s atom d i) q).pat
-        piece_is_one j = let v = inv (read s atom d i) q in record {
-          end = e;
-          was = piece_ok s d i h e v.pat v.is ∙ ap (λ x. repeated x (look s e) e v.pat) (ne_eqb _ _ b) ∙ ap (λ x. plus? x (look s e) e v.pat) (ne_eqb _ _ k) ∙ ap (λ x. opt? x e v.pat) (ne_eqb _ _ j);
-        }
+    pub piece_is_one : repeating (look s e) ≡ false → Is (read s piece d i) (inv (read s atom d i) q).pat
+    piece_is_one b = let v = inv (read s atom d i) q in record { end = e; was = piece_ok s d i h e v.pat v.is ∙ once (look s e) e v.pat b }
 
-  pub atom_is : look s i ≡ 40 → (d ≡ 16 → ⊥) → (e : ℕ) (m : Sum) (q : Ok e m ≡ measured (read s alts (d + 1) (i + 1))) → look s e ≡ 41 → Is (read s atom d i) (inv (read s alts (d + 1) (i + 1)) q).pat
-  atom_is o g e m q b = let v = inv (read s alts (d + 1) (i + 1)) q in record { end = e + 1; was = atom_closed s d i h e v.pat o g v.is ∙ ap (λ x. closed x e v.pat) (eq-eqb _ _ b) }
+  pub atom_is : look s i ≡ 40 → (d ≡ 16 → ⊥) → {e : ℕ} {m : Sum} (q : Ok (e, m) ≡ measured (read s alts (d + 1) (i + 1))) → look s e ≡ 41 → Is (read s atom d i) (inv (read s alts (d + 1) (i + 1)) q).pat
+  atom_is o g {e = e} q b = let v = inv (read s alts (d + 1) (i + 1)) q in record { end = e + 1; was = atom_closed s d i h e v.pat o g v.is ∙ ap (λ x. closed x e v.pat) (eq-eqb _ _ b) }
 
 -- nothing is written for what is empty
 pub wrote_empty : (l : List ℕ) (o n f : ℕ) (r : Res) → Is r Empty → Wrote l l o o (coded r n f)
@@ -227,8 +213,5 @@ forked a b o o' x x' y y' e g w = subst (λ (k : ℕ). Wrote a b o o' (rec_bytes
 pub below : (x y m : ℕ) → x ≡ y → y < m → x < m
 below x y m e h = omega arith
 
-pub room_number : (r r₁ : Res) (n f o len : ℕ) → Room r n f o len → sized r ≡ sized r₁ + 1 → n + 1 < 256
-room_number r r₁ n f o len m e = let z = m.numbers in omega arith
-
-pub sized_of : (r : Res) {e : ℕ} {m : Sum} (q : Ok e m ≡ measured r) → size (inv r q).pat ≡ m.size
+pub sized_of : (r : Res) {e : ℕ} {m : Sum} (q : Ok (e, m) ≡ measured r) → size (inv r q).pat ≡ m.size
 sized_of r q = ap (λ k. k.size) (inv r q).summed

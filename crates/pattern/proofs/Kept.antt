@@ -13,7 +13,7 @@ use Rattle.answers.specs.Answers.{OK}
 use Rattle.pattern.specs.Pat.{Pat, size}
 use Rattle.pattern.specs.Reader.{Res, ok, form, deep, alts, read}
 use Rattle.pattern.specs.Maker.{Given, given, file, made, judged, maker}
-use Rattle.pattern.specs.declared.Made.{Made}
+use Rattle.pattern.specs.Made.{Made}
 
 -- the promise leaves one answer and one output
 pub one_answer : (s out : List ℕ) (m m' : Made) (l l' : List ℕ) → given m l ≡ maker s out → given m' l' ≡ maker s out → (m ≡ m') × (l ≡ l')

@@ -7,7 +7,7 @@ use native.Mathlib.Omega.{arith}
 use native.Mathlib.Nat.{not-suc-le-zero}
 use lib.ListN.{length, get_or, drop, length-drop}
 use lib.Dec.{eqb}
-use borrow.Author.Tests.{eqb-true, eqb-false, eq-eqb, ne_eqb, le-leb, lt-leb}
+use borrow.Author.Tests.{eqb-true, eqb-false, eq-eqb, ne_eqb, le-leb}
 use Rattle.ground.specs.Pick.{look}
 use Rattle.ground.proofs.Tests.{true_false}
 use Rattle.ground.proofs.Picks.{same_inside, in_list, test_in}
@@ -244,10 +244,6 @@ read_step s l d i h =
 
 -- The cases of an atom that is no group.
 module _ (s : List ℕ) (i : ℕ) where
-  pub single_cut : look s i ≡ 92 → look s (i + 1) ≡ 256 → single s i ≡ form (i + 1)
-  unfolding single
-  single_cut a b = simp (eq-eqb _ _ a, eq-eqb _ _ b)
-
   pub single_escaped : look s i ≡ 92 → (look s (i + 1) ≡ 256 → ⊥) → single s i ≡ ok (i + 2) (Byte (look s (i + 1)))
   unfolding single
   single_escaped a b = simp (eq-eqb _ _ a, ne_eqb _ _ b)
@@ -259,12 +255,6 @@ module _ (s : List ℕ) (i : ℕ) where
   pub single_tag : look s i ≡ 64 → 48 ≤ look s (i + 1) → look s (i + 1) ≤ 55 → single s i ≡ ok (i + 2) (Tag (look s (i + 1) - 48))
   single_tag a b d = marked a ∙ simp (le-leb _ _ b, le-leb _ _ d)
 
-  pub single_low : look s i ≡ 64 → look s (i + 1) < 48 → single s i ≡ form (i + 1)
-  single_low a b = marked a ∙ simp (lt-leb _ _ b)
-
-  pub single_high : look s i ≡ 64 → 48 ≤ look s (i + 1) → 55 < look s (i + 1) → single s i ≡ form (i + 1)
-  single_high a b d = marked a ∙ simp (le-leb _ _ b, lt-leb _ _ d)
-
   pub single_dot : look s i ≡ 46 → single s i ≡ ok (i + 1) Any
   unfolding single
   single_dot a = rw a
@@ -274,10 +264,6 @@ module _ (s : List ℕ) (i : ℕ) where
   single_set a = ap (λ c. on_esc (eqb c 92) s i c) a
 
   module _ (a : look s i ≡ 92 → ⊥) (b : look s i ≡ 64 → ⊥) (d : look s i ≡ 46 → ⊥) (g : look s i ≡ 91 → ⊥) where
-    pub single_barred : barred (look s i) ≡ true → single s i ≡ form i
-    unfolding single
-    single_barred h = simp (ne_eqb _ _ a, ne_eqb _ _ b, ne_eqb _ _ d, ne_eqb _ _ g, h)
-
     pub single_plain : barred (look s i) ≡ false → single s i ≡ ok (i + 1) (Byte (look s i))
     unfolding single
     single_plain h = simp (ne_eqb _ _ a, ne_eqb _ _ b, ne_eqb _ _ d, ne_eqb _ _ g, h)

@@ -1,3 +1,4 @@
+pub mod Bytes
 pub mod Words
 pub mod SetSteps
 pub mod Masks
@@ -9,6 +10,7 @@ pub mod Emit
 pub mod EmitSteps
 pub mod EmitLoops
 pub mod EmitSets
+pub mod EmitRepeats
 pub mod Top
 pub mod Legal
 pub mod Kept

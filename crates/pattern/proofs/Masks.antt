@@ -6,7 +6,8 @@ use mathlib.Core.List.{List, [], ◌∷◌, ◌++◌}
 use native.Mathlib.Omega.{arith}
 use native.Mathlib.Numerals.{add-one}
 use native.Mathlib.Nat.{add-zero, pow-succ', pow-le-pow_right, not-suc-le-zero, le_of_suc-le-suc}
-use lib.ListN.{length, set, get_or}
+use lib.ListN.{length, get_or}
+use Rattle.std.specs.Int.{from_bool}
 use Rattle.ground.specs.Bits.{flag, bit_of}
 use Rattle.ground.specs.Lists.{Wrote}
 use Rattle.ground.proofs.Bits.{bit_zero, bit_suc}
@@ -27,22 +28,28 @@ bits_below f (suc k) b = let h = bits_below f k (b + 1) in let t = flag_small (f
 pub octet_byte : (f : ℕ → Bool) (k b : ℕ) → k ≤ 8 → octet f k b < 256
 octet_byte f k b h = let l = bits_below f k b in let e : 2 ^ k ≤ 2 ^ 8 = pow-le-pow_right (omega arith) h in omega arith
 
+-- there is room for one bit more
+pub octet_half : (f : ℕ → Bool) (k b : ℕ) → k < 8 → octet f k b < 128
+octet_half f k b h = let l = bits_below f k b in let g : k ≤ 7 = omega arith in let e : 2 ^ k ≤ 2 ^ 7 = pow-le-pow_right (omega arith) g in omega arith
+
+pub bit_small : (t : Bool) → from_bool t ≤ 1
+bit_small true = omega arith
+bit_small false = omega arith
+
 -- one bit more, below the others
-pub octet_more : (f : ℕ → Bool) (m j b bits : ℕ) (t : Bool) → m ≡ 8 - j → 0 < j → j ≤ 8 → t ≡ f (b + (j - 1)) → bits ≡ octet f m (b + j) → flag t + 2 * bits ≡ octet f (8 - (j - 1)) (b + (j - 1))
+pub octet_more : (f : ℕ → Bool) (j b bits x : ℕ) (t : Bool) → 0 < j → j ≤ 8 → x ≡ from_bool t → t ≡ f (b + (j - 1)) → bits ≡ octet f (8 - j) (b + j) → 2 * bits + x ≡ octet f (8 - (j - 1)) (b + (j - 1))
 unfolding octet
-octet_more f m j b bits t e p h g q =
-    let k : 8 - (j - 1) ≡ suc m = omega arith in
+octet_more f j b bits x t p h e g q =
+    let k : 8 - (j - 1) ≡ suc (8 - j) = omega arith in
     let n : b + j ≡ b + (j - 1) + 1 = omega arith in
-    ap (λ x. flag x + 2 * bits) g
-    ∙ ap (λ x. flag (f (b + (j - 1))) + 2 * x) (q ∙ ap (octet f m) n)
-    ∙ sym (ap (λ x. octet f x (b + (j - 1))) k)
-
-pub octet_none : (f : ℕ → Bool) (b : ℕ) → 0 ≡ octet f (8 - 8) (b + 8)
-unfolding octet
-octet_none f b = refl
-
-pub octet_all : (f : ℕ → Bool) (j b bits : ℕ) → j ≡ 0 → bits ≡ octet f (8 - j) (b + j) → bits ≡ octet f 8 b
-octet_all f j b bits e q = q ∙ ap (λ x. octet f (8 - x) (b + x)) e ∙ ap (octet f 8) (add-zero b)
+    flagged t e
+    ∙ ap (λ y. flag y + 2 * bits) g
+    ∙ ap (λ y. flag (f (b + (j - 1))) + 2 * y) (q ∙ ap (octet f (8 - j)) n)
+    ∙ sym (ap (λ y. octet f y (b + (j - 1))) k)
+  where
+    flagged : (t : Bool) → x ≡ from_bool t → 2 * bits + x ≡ flag t + 2 * bits
+    flagged true e = omega arith
+    flagged false e = omega arith
 
 -- one byte more, after the others
 pub octets_more : (f : ℕ → Bool) (k b : ℕ) → octets f (suc k) b ≡ octets f k b ++ octet f 8 (b + 8 * k) ∷ []
@@ -63,27 +70,10 @@ unfolding octets
 octets_long f zero b = refl
 octets_long f (suc k) b = ap suc (octets_long f k (b + 8))
 
--- one store
-pub wrote_1 : (l : List ℕ) (o a : ℕ) → Wrote l (set l o a) o (o + 1) (a ∷ [])
-wrote_1 l o a = record { held = refl; on = refl }
-
--- a byte of the body more
-pub body_more : (f : ℕ → Bool) (l m : List ℕ) (o k x : ℕ) → Wrote l m o (o + k) (octets f k 0) → x ≡ octet f 8 (8 * k) → Wrote l (set m (o + k) x) o (o + (k + 1)) (octets f (k + 1) 0)
-body_more f l m o k x w e =
-    let n : o + k + 1 ≡ o + (k + 1) = omega arith in
-    subst (λ (j : ℕ). Wrote l (set m (o + k) x) o j (octets f (k + 1) 0)) n
-    (subst (Wrote l (set m (o + k) x) o (o + k + 1)) (ap (λ y. octets f k 0 ++ y ∷ []) e ∙ sym (octets_next f k))
-    (wrote_then (octets f k 0) (x ∷ []) w (wrote_1 m (o + k) x)))
-
--- kind, body and next
-pub mask_wrote : (f : ℕ → Bool) (l m : List ℕ) (o k next : ℕ) → k ≡ 32 → Wrote (set l o 18) m (o + 1) (o + 1 + k) (octets f k 0) → Wrote l (set m (o + 33) next) o (o + 34) (18 ∷ (octets f 32 0 ++ next ∷ []))
-mask_wrote f l m o k next e w =
-    let a : o + 1 + k ≡ o + 33 = omega arith in
-    let b : o + 33 + 1 ≡ o + 34 = omega arith in
-    let ws = octets f k 0 in
-    subst (λ (j : ℕ). Wrote l (set m (o + 33) next) o (o + 34) (18 ∷ (octets f j 0 ++ next ∷ []))) e
-    (subst (λ (j : ℕ). Wrote l (set m (o + 33) next) o j (18 ∷ (ws ++ next ∷ []))) b
-    (wrote_then (18 ∷ []) (ws ++ next ∷ []) (wrote_1 l o 18) (wrote_then ws (next ∷ []) (subst (λ (j : ℕ). Wrote (set l o 18) m (o + 1) j ws) a w) (wrote_1 m (o + 33) next))))
+-- after the kind, a byte of the body more
+pub body_more : (f : ℕ → Bool) {l m m' : List ℕ} {o p p' : ℕ} (k x : ℕ) → Wrote l m o p (0x12 ∷ octets f k 0) → Wrote m m' p p' (x ∷ []) → x ≡ octet f 8 (8 * k) → Wrote l m' o p' (0x12 ∷ octets f (k + 1) 0)
+body_more f {l} {m' = m'} {o} {p' = p'} k x w v e =
+    subst (λ (ws : List ℕ). Wrote l m' o p' (0x12 ∷ ws)) (ap (λ y. octets f k 0 ++ y ∷ []) e ∙ sym (octets_next f k)) (wrote_then _ _ w v)
 
 -- bit t of an octet, and byte j of a body
 octet_bit : (f : ℕ → Bool) (k b t : ℕ) → t < k → bit_of (octet f k b) t ≡ flag (f (b + t))

@@ -3,7 +3,7 @@ use mathlib.Core.Path.{◌≡◌, ap, ◌∙◌}
 use Prim.Native.Nat.{ℕ}
 use Rattle.pattern.specs.declared.reading.Sum.{Sum}
 
-pub topped : (s w m n : ℕ) → m ≡ n → ◌≡◌ {A = Sum} (record { size = s; width = w; tags = m }) (record { size = s; width = w; tags = n })
+topped : (s w m n : ℕ) → m ≡ n → ◌≡◌ {A = Sum} (record { size = s; width = w; tags = m }) (record { size = s; width = w; tags = n })
 topped s w m n e = ap (λ (k : ℕ). record { size = s; width = w; tags = k }) e
 
 pub alike : {a b c a' b' c' : ℕ} → a ≡ a' → b ≡ b' → c ≡ c' → ◌≡◌ {A = Sum} (record { size = a; width = b; tags = c }) (record { size = a'; width = b'; tags = c' })

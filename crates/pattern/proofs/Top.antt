@@ -3,12 +3,13 @@ use Prim.Native.Nat.{ℕ, ◌+◌, ◌≤◌, ◌<◌}
 use mathlib.Core.Path.{◌≡◌, refl, sym, ap, subst, ◌∙◌}
 use mathlib.Core.List.{List, [], ◌∷◌, ◌++◌}
 use native.Mathlib.Omega.{arith}
+use Rattle.std.specs.Prelude.{Ok, Err}
 use lib.ListN.{length, length-append}
 use lib.Dec.{ltb}
 use Rattle.ground.specs.Pick.{pick}
 use Rattle.ground.specs.Lists.{Wrote}
 use Rattle.ground.proofs.Picks.{pick_lt, pick_not_lt, pick_le, pick_not_le}
-use Rattle.answers.specs.Answers.{OK, PATTERN_LONG, PATTERN_FORM, PATTERN_DEEP, PATTERN_BIG, OUT_SMALL}
+use Rattle.answers.specs.Answers.{OK, PATTERN_LONG, PATTERN_FORM, PATTERN_BIG, OUT_SMALL}
 use Rattle.net.specs.Rec.{Rec, mask, fork, end}
 use Rattle.net.specs.File.{rec_bytes}
 use Rattle.pattern.specs.Pat.{Pat, size, start_at, compile, automaton}
@@ -16,11 +17,12 @@ use Rattle.pattern.specs.Pat.Pat.{Empty, Byte, Any, Set, Tag, Seq, Alt, Star, Pl
 use Rattle.pattern.specs.Reader.{Res, ok, form, deep, alts, read}
 use Rattle.pattern.specs.Measured.{measured, width, tags}
 use Rattle.pattern.specs.Writing.{bytes, coded, Room, head_of, filed}
+use Rattle.pattern.specs.Made.{made_of}
 use Rattle.pattern.specs.Maker.{file, given, refuse, written, made, judged, maker}
 use Rattle.pattern.specs.declared.reading.Sum.{Sum}
-use Rattle.pattern.specs.declared.reading.Read.TheVariants.{Ok, Form, Deep}
-use Rattle.pattern.specs.declared.Made.{Made}
-use Rattle.pattern.proofs.Steps.{Refused, inv}
+use Rattle.pattern.specs.declared.Fault.{Fault}
+use Rattle.pattern.specs.declared.Fault.TheVariants.{Form, Deep}
+use Rattle.pattern.proofs.Steps.{inv}
 use Rattle.pattern.proofs.EmitSteps.{bytes_append, is_inv, coded_is, sized_is, sized_of}
 use Rattle.pattern.proofs.Sane.{Sane}
 
@@ -80,38 +82,22 @@ file_length p h =
     let b = length-append (bytes (compile p 0 (size p))) (rec_bytes (end 0)) in
     let c = ap length (file_is_filed p) in omega arith
 
-refused_is : (m : Made) (code place : ℕ) (out : List ℕ) → m ≡ record { code = code; place = place; length = 0 } → given m out ≡ refuse code place out
-refused_is m code place out e = ap (λ x. given x out) e
-
-module _ (s out : List ℕ) (m : Made) where
-  pub at_long : 255 < length s → m ≡ record { code = PATTERN_LONG; place = 0; length = 0 } → given m out ≡ maker s out
+module _ (s out : List ℕ) where
+  pub at_long : 255 < length s → refuse PATTERN_LONG 0 out ≡ maker s out
   unfolding maker
-  at_long h e = refused_is m PATTERN_LONG 0 out e ∙ sym (pick_lt 255 (length s) _ _ h)
+  at_long h = sym (pick_lt 255 (length s) _ _ h)
 
-  module _ (h : length s ≤ 255) where
-    within : maker s out ≡ judged (read s alts 0 0) s out
-    unfolding maker
-    within = pick_not_lt 255 (length s) _ _ h
+  fault_of : (r : Res) {f : Fault} → Err f ≡ measured r → given (made_of (Err f)) out ≡ judged r s out
+  unfolding measured
+  fault_of (ok e p) h = cc
+  fault_of (form q) {f = f} h = let z : f ≡ Form q = cc in ap (λ x. given (made_of (Err x)) out) z
+  fault_of (deep q) {f = f} h = let z : f ≡ Deep q = cc in ap (λ x. given (made_of (Err x)) out) z
 
-    form_of : (r : Res) (q : ℕ) → Form q ≡ measured r → r ≡ form q
-    unfolding measured
-    form_of (ok e p) q e' = absurd (subst Refused e' tt)
-    form_of (form q') q e' = cc
-    form_of (deep q') q e' = let z : ◌≡◌ {A = ℕ} 0 1 = cc in absurd (omega arith)
+  pub at_fault : length s ≤ 255 → {f : Fault} → Err f ≡ measured (read s alts 0 0) → given (made_of (Err f)) out ≡ maker s out
+  unfolding maker
+  at_fault h q = fault_of (read s alts 0 0) q ∙ sym (pick_not_lt 255 (length s) _ _ h)
 
-    deep_of : (r : Res) (q : ℕ) → Deep q ≡ measured r → r ≡ deep q
-    unfolding measured
-    deep_of (ok e p) q e' = absurd (subst Refused e' tt)
-    deep_of (form q') q e' = let z : ◌≡◌ {A = ℕ} 0 1 = cc in absurd (omega arith)
-    deep_of (deep q') q e' = cc
-
-    pub at_form : (q : ℕ) → Form q ≡ measured (read s alts 0 0) → m ≡ record { code = PATTERN_FORM; place = q; length = 0 } → given m out ≡ maker s out
-    at_form q x e = refused_is m PATTERN_FORM q out e ∙ sym (within ∙ ap (λ r. judged r s out) (form_of (read s alts 0 0) q x))
-
-    pub at_deep : (q : ℕ) → Deep q ≡ measured (read s alts 0 0) → m ≡ record { code = PATTERN_DEEP; place = q; length = 0 } → given m out ≡ maker s out
-    at_deep q x e = refused_is m PATTERN_DEEP q out e ∙ sym (within ∙ ap (λ r. judged r s out) (deep_of (read s alts 0 0) q x))
-
-module _ (s out : List ℕ) (h : length s ≤ 255) (e : ℕ) (u : Sum) (q : Ok e u ≡ measured (read s alts 0 0)) where
+module _ (s out : List ℕ) (h : length s ≤ 255) {e : ℕ} {u : Sum} (q : Ok (e, u) ≡ measured (read s alts 0 0)) where
   abbrev pub pat : Pat
   pat = (inv (read s alts 0 0) q).pat
 
@@ -119,15 +105,15 @@ module _ (s out : List ℕ) (h : length s ≤ 255) (e : ℕ) (u : Sum) (q : Ok e
   unfolding maker
   whole = pick_not_lt 255 (length s) _ _ h ∙ ap (λ r. judged r s out) (inv (read s alts 0 0) q).is
 
-  pub at_open : (m : Made) → e < length s → m ≡ record { code = PATTERN_FORM; place = e; length = 0 } → given m out ≡ maker s out
-  at_open m l z = refused_is m PATTERN_FORM e out z ∙ sym (whole ∙ pick_lt e (length s) _ _ l)
+  pub at_open : e < length s → refuse PATTERN_FORM e out ≡ maker s out
+  at_open l = sym (whole ∙ pick_lt e (length s) _ _ l)
 
   module _ (l : length s ≤ e) where
     ended : maker s out ≡ made pat out
     ended = whole ∙ pick_not_lt e (length s) _ _ l
 
-    pub at_big : (m : Made) → 64 ≤ u.size → m ≡ record { code = PATTERN_BIG; place = 0; length = 0 } → given m out ≡ maker s out
-    at_big m g z = refused_is m PATTERN_BIG 0 out z ∙ sym (ended ∙ pick_le 64 (size pat) _ _ (subst (λ (k : ℕ). 64 ≤ k) (sym (sized_of (read s alts 0 0) q)) g))
+    pub at_big : 64 ≤ u.size → refuse PATTERN_BIG 0 out ≡ maker s out
+    at_big g = sym (ended ∙ pick_le 64 (size pat) _ _ (subst (λ (k : ℕ). 64 ≤ k) (sym (sized_of (read s alts 0 0) q)) g))
 
     module _ (g : u.size < 64) (sane : Sane pat) where
       fitted : maker s out ≡ pick (ltb (length out) (length (file pat))) (refuse OUT_SMALL 0 out) (written (file pat) out)
@@ -136,19 +122,19 @@ module _ (s out : List ℕ) (h : length s ≤ 255) (e : ℕ) (u : Sum) (q : Ok e
       file_is : length (file pat) ≡ u.width + 6
       file_is = file_length pat sane ∙ ap (λ k. k.width + 6) (inv (read s alts 0 0) q).summed
 
-      pub at_small : (m : Made) → length out < u.width + 6 → m ≡ record { code = OUT_SMALL; place = 0; length = 0 } → given m out ≡ maker s out
-      at_small m k z = refused_is m OUT_SMALL 0 out z ∙ sym (fitted ∙ pick_lt (length out) (length (file pat)) _ _ (subst (λ (j : ℕ). length out < j) (sym file_is) k))
+      pub at_small : length out < u.width + 6 → refuse OUT_SMALL 0 out ≡ maker s out
+      at_small k = sym (fitted ∙ pick_lt (length out) (length (file pat)) _ _ (subst (λ (j : ℕ). length out < j) (sym file_is) k))
 
       module _ (k : u.width + 6 ≤ length out) where
         coded_long : length (coded (read s alts 0 0) 0 u.size) ≡ u.width
         coded_long =
-            ap length (coded_is (read s alts 0 0) pat 0 u.size (is_inv (read s alts 0 0) e u q)) ∙ bytes_width pat sane 0 u.size
+            ap length (coded_is (read s alts 0 0) pat 0 u.size (is_inv (read s alts 0 0) q)) ∙ bytes_width pat sane 0 u.size
             ∙ ap (λ j. j.width) (inv (read s alts 0 0) q).summed
 
         pub room : Room (read s alts 0 0) 0 u.size 4 (length out)
         room =
             let a = coded_long in
-            let c = sized_is (read s alts 0 0) pat (is_inv (read s alts 0 0) e u q) ∙ sized_of (read s alts 0 0) q in
+            let c = sized_is (read s alts 0 0) pat (is_inv (read s alts 0 0) q) ∙ sized_of (read s alts 0 0) q in
             record { room = omega arith; numbers = omega arith; follow = omega arith }
 
         pub room_end : 4 + length (coded (read s alts 0 0) 0 u.size) + 2 ≤ length out
@@ -156,7 +142,7 @@ module _ (s out : List ℕ) (h : length s ≤ 255) (e : ℕ) (u : Sum) (q : Ok e
 
         as_filed : filed (read s alts 0 0) u.size u.tags 0 ≡ file pat
         as_filed =
-            ap (λ ws. head_of u.tags (u.size + 1) ++ (ws ++ rec_bytes (end 0))) (coded_is (read s alts 0 0) pat 0 u.size (is_inv (read s alts 0 0) e u q))
+            ap (λ ws. head_of u.tags (u.size + 1) ++ (ws ++ rec_bytes (end 0))) (coded_is (read s alts 0 0) pat 0 u.size (is_inv (read s alts 0 0) q))
             ∙ ap (λ j. head_of j.tags (j.size + 1) ++ (bytes (compile pat 0 j.size) ++ rec_bytes (end 0))) (sym (inv (read s alts 0 0) q).summed)
             ∙ sym (file_is_filed pat)
 

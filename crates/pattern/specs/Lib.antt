@@ -2,8 +2,11 @@ pub mod Pat
 pub mod Tests
 pub mod Sets
 pub mod Reader
+pub mod Text
 pub mod Grammar
 pub mod Maker
+pub mod Made
 pub mod Standing
 pub mod Measured
+pub mod Atoms
 pub mod Writing

@@ -7,7 +7,7 @@ use Rattle.net.specs.File.{file_of}
 use Rattle.pattern.specs.Pat.{Pat, size, automaton}
 use Rattle.pattern.specs.Reader.{Res, ok, form, deep, alts, read}
 use Rattle.pattern.specs.Measured.{tags}
-use Rattle.pattern.specs.declared.Made.{Made}
+use Rattle.pattern.specs.Made.{Made}
 
 -- the automaton file of a pattern
 unfoldable pub file : Pat → List ℕ

@@ -1,11 +1,11 @@
 -- What the reading functions answer: a reading's end and the measures of its pattern, or the refusal. Assumes nothing: these are definitions.
-use Rattle.std.specs.Prelude.{ℕ, ◌+◌, max}
+use Rattle.std.specs.Prelude.{ℕ, ◌+◌, max, Result, Ok, Err}
 use Rattle.pattern.specs.Pat.{Pat, size}
 use Rattle.pattern.specs.Pat.Pat.{Empty, Byte, Any, Set, Tag, Seq, Alt, Star, Plus, Opt}
 use Rattle.pattern.specs.Reader.{Res, ok, form, deep}
 use Rattle.pattern.specs.declared.reading.Sum.{Sum}
-use Rattle.pattern.specs.declared.reading.Read.{Read}
-use Rattle.pattern.specs.declared.reading.Read.TheVariants.{Ok, Form, Deep}
+use Rattle.pattern.specs.declared.Fault.{Fault}
+use Rattle.pattern.specs.declared.Fault.TheVariants.{Form, Deep}
 
 -- "The HEAD's tags is the highest tag plus one, or 0."
 abbrev pub tags : Pat → ℕ
@@ -46,7 +46,11 @@ alt_sum a b = record { size = 1 + (a.size + b.size); width = 3 + (a.width + b.wi
 abbrev pub rep_sum : Sum → Sum
 rep_sum a = record { size = a.size + 1; width = a.width + 3; tags = a.tags }
 
+-- the place after a part and its measures, or the fault in it
+abbrev pub Read : Type 0
+Read = Result (ℕ × Sum) Fault
+
 unfoldable pub measured : Res → Read
-measured (ok e p) = Ok e (sum_of p)
-measured (form q) = Form q
-measured (deep q) = Deep q
+measured (ok e p) = Ok (e, sum_of p)
+measured (form q) = Err (Form q)
+measured (deep q) = Err (Deep q)

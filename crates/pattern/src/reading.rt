@@ -1,11 +1,26 @@
 // Measuring a pattern text: alternatives, sequences and atoms call each other; the bytes left, paired with the grammar level, fall.
-// Alternatives and sequences are loops, so that the stack grows with the open groups alone.
-ghost use Rattle.std.specs.Prelude.{◌≡◌, ◌≤◌, ◌<◌, ◌+◌, max, length};
-ghost use Rattle.pattern.specs.Reader.{read, single, set_at, alts, seq, piece, atom};
-ghost use Rattle.pattern.specs.Measured.{measured, seq_sum, alt_sum, rep_sum};
+// Alternatives and sequences are loops, so that the stack grows with the open groups alone. Their parts differ in length: where the next
+// stands is known only after the one before. Text, place and depth are no struct: each call has another place or depth.
+ghost use Rattle.std.specs.Prelude.{◌≡◌, ◌≤◌, ◌<◌, ◌+◌, [], length};
+ghost use Rattle.pattern.specs.Reader.{read, alts, seq, piece, atom};
+ghost use Rattle.pattern.specs.Atoms.{Found, Small, pat_of};
+ghost use Rattle.pattern.specs.Measured.{measured, sum_of, seq_sum, rep_sum};
 
-use crate::sets::{Scanned, bracket};
-use crate::text::{bars, look, repeats, stops_at};
+use crate::Fault;
+use crate::sets::bracket;
+use crate::text::{byte_at, repeat_of, stops_at};
+
+// How many groups may be open.
+pub const GROUPS: usize = 16;
+
+// How many bytes a record is, with its kind.
+const RANGE_BYTES: usize = 4;
+
+const MASK_BYTES: usize = 34;
+
+const FORK_BYTES: usize = 3;
+
+const TAG_BYTES: usize = 3;
 
 // How many records a pattern is, how many bytes they are, and its highest tag plus one.
 #[derive(Clone, Copy)]
@@ -15,136 +30,100 @@ pub struct Sum {
     pub tags: u8,
 }
 
-// What reading a part of a pattern finds.
-#[derive(Clone, Copy)]
-pub enum Read {
-    // The place after it, and its measures.
-    Ok { end: usize, sum: Sum },
-    Form(usize),
-    Deep(usize),
-}
-
-// The measures of nothing.
-fn none() -> Sum
-    ensures { result ≡ record { size = 0; width = 0; tags = 0 } }
-{
-    Sum {
+impl Sum {
+    // The measures of nothing.
+    const NONE: Sum = Sum {
         size: 0,
         width: 0,
         tags: 0,
+    };
+
+    // The measures of one record.
+    fn one(width: usize, tags: u8) -> Sum
+        ensures { result ≡ record { size = 1; width = width; tags = tags } }
+    {
+        Sum {
+            size: 1,
+            width,
+            tags,
+        }
+    }
+
+    // The measures of a part and what follows it.
+    fn then(self, next: Sum) -> Sum
+        requires { (self.size + next.size < 65536) × (self.width + next.width < 65536) }
+        ensures { result ≡ seq_sum self next }
+    {
+        Sum {
+            size: self.size + next.size,
+            width: self.width + next.width,
+            tags: self.tags.max(next.tags),
+        }
+    }
+
+    // The measures of a part and its FORK.
+    fn forked(self) -> Sum
+        requires { (self.size < 65536) × (self.width < 65536) }
+        ensures { result ≡ rep_sum self }
+    {
+        Sum {
+            size: self.size + 1,
+            width: self.width + FORK_BYTES,
+            ..self
+        }
     }
 }
 
-// The measures of one record.
-fn one(width: usize, tags: u8) -> Sum
-    ensures { result ≡ record { size = 1; width = width; tags = tags } }
-{
-    Sum {
-        size: 1,
-        width: width,
-        tags: tags,
+// What reading a part of a pattern finds: the place after it and its measures, or the fault in it.
+pub type Read = Result<(usize, Sum), Fault>;
+
+// One atom that is no group: a byte, any byte, a tag, or the set whose `[` stands where it was read.
+#[derive(Clone, Copy)]
+pub enum Atom {
+    Byte(u8),
+    Any,
+    Tag(u8),
+    Set,
+}
+
+impl Atom {
+    // The measures of its record.
+    fn sum(self) -> Sum
+        requires { Small self }
+        ensures { result ≡ sum_of (pat_of [] self) }
+    {
+        match self {
+            Atom::Byte(_) | Atom::Any => Sum::one(RANGE_BYTES, 0),
+            Atom::Tag(t) => Sum::one(TAG_BYTES, t + 1),
+            Atom::Set => Sum::one(MASK_BYTES, 0),
+        }
     }
 }
 
-// The larger of two.
-fn larger(a: u8, b: u8) -> u8
-    ensures { result ≡ max a b }
-{
-    if a < b { b } else { a }
-}
-
-// The measures of a sequence.
-fn seq_sum(a: Sum, b: Sum) -> Sum
-    requires { (a.size + b.size < 65536) × (a.width + b.width < 65536) }
-    ensures { result ≡ seq_sum a b }
-{
-    Sum {
-        size: a.size + b.size,
-        width: a.width + b.width,
-        tags: larger(a.tags, b.tags),
-    }
-}
-
-// The measures of two alternatives and their FORK.
-fn alt_sum(a: Sum, b: Sum) -> Sum
-    requires { (a.size + b.size < 65536) × (a.width + b.width < 65536) }
-    ensures { result ≡ alt_sum a b }
-{
-    Sum {
-        size: 1 + (a.size + b.size),
-        width: 3 + (a.width + b.width),
-        tags: larger(a.tags, b.tags),
-    }
-}
-
-// The measures of a repeated atom and its FORK.
-fn rep_sum(a: Sum) -> Sum
-    requires { (a.size < 65536) × (a.width < 65536) }
-    ensures { result ≡ rep_sum a }
-{
-    Sum {
-        size: a.size + 1,
-        width: a.width + 3,
-        tags: a.tags,
-    }
-}
-
-// The set whose `[` stands there. Its caller has seen the `[`.
-pub fn set(s: &[u8], at: usize) -> Read
-    requires { at < length s.now }
-    ensures { result ≡ measured (set_at s.now at) }
-{
-    match bracket(s, at) {
-        Scanned::At(end) => Read::Ok {
-            end,
-            sum: one(34, 0),
-        },
-        Scanned::Wrong(q) => Read::Form(q),
-    }
-}
-
-// One atom that is no group.
-fn lone(s: &[u8], at: usize) -> Read
+// The atom there, if it is no group, and the place after it. Inlined, as are `sequence` and `repeated`: an open group then asks for
+// two frames on the stack.
+#[tactic(auto, using(std::proofs::lemmas::Bool::Decides::nat_tests), unfolding(crate::specs::Reader::single, crate::specs::Measured::measured))]
+#[inline(always)]
+pub fn lone(s: &[u8], at: usize) -> Result<(usize, Atom), Fault>
     requires { at ≤ length s.now }
-    ensures { result ≡ measured (single s.now at) }
+    ensures { Found s.now at result }
 {
-    let c = look(s, at);
-    if c == 92 {
-        if look(s, at + 1) == 256 {
-            return Read::Form(at + 1);
-        }
-        return Read::Ok {
-            end: at + 2,
-            sum: one(4, 0),
-        };
-    }
-    if c == 64 {
-        let t = look(s, at + 1);
-        if 48 <= t {
-            if t <= 55 {
-                return Read::Ok {
-                    end: at + 2,
-                    sum: one(3, (t - 48 + 1) as u8),
-                };
-            }
-        }
-        return Read::Form(at + 1);
-    }
-    if c == 46 {
-        return Read::Ok {
-            end: at + 1,
-            sum: one(4, 0),
-        };
-    }
-    if c == 91 {
-        return set(s, at);
-    }
-    if bars(c) {
-        return Read::Form(at);
-    }
-    Read::Ok {
-        end: at + 1,
-        sum: one(4, 0),
+    match byte_at(s, at) {
+        Some(b'\\') => match byte_at(s, at + 1) {
+            None => Err(Fault::Form(at + 1)),
+            Some(c) => Ok((at + 2, Atom::Byte(c))),
+        },
+        Some(b'@') => match byte_at(s, at + 1) {
+            Some(t @ b'0'..=b'7') => Ok((at + 2, Atom::Tag(t - b'0'))),
+            _ => Err(Fault::Form(at + 1)),
+        },
+        Some(b'.') => Ok((at + 1, Atom::Any)),
+        Some(b'[') => match bracket(s, at) {
+            Ok(end) => Ok((end, Atom::Set)),
+            Err(q) => Err(Fault::Form(q)),
+        },
+        None | Some(b'|' | b')' | b'*' | b'+' | b'?' | b']') => Err(Fault::Form(at)),
+        Some(c) => Ok((at + 1, Atom::Byte(c))),
     }
 }
 
@@ -155,64 +134,48 @@ pub fn alternatives(s: &[u8], at: usize, depth: usize) -> Read
     requires { (at ≤ length s.now) × (depth ≤ 16) × (length s.now ≤ 255) }
     ensures { result ≡ measured (read s.now alts depth at) }
 {
-    let mut sum = none();
+    let mut sum = Sum::NONE;
     let mut i = at;
     loop {
-        let one = sequence(s, i, depth);
-        let Read::Ok { end, sum: more } = one else {
-            return one;
-        };
-        if look(s, end) != 124 {
-            return Read::Ok {
-                end,
-                sum: seq_sum(sum, more),
-            };
+        let (end, more) = sequence(s, i, depth)?;
+        if byte_at(s, end) != Some(b'|') {
+            return Ok((end, sum.then(more)));
         }
-        sum = alt_sum(sum, more);
+        // An alternative that others follow has a FORK before it.
+        sum = sum.then(more.forked());
         i = end + 1;
     }
 }
 
 // A sequence. What it asks `alternatives` shows.
 #[cycle(alternatives_atomic_repeated_sequence)]
+#[inline(always)]
 pub fn sequence(s: &[u8], at: usize, depth: usize) -> Read
     requires { (at ≤ length s.now) × (depth ≤ 16) × (length s.now ≤ 255) }
     ensures { result ≡ measured (read s.now seq depth at) }
 {
-    let mut sum = none();
+    let mut sum = Sum::NONE;
     let mut i = at;
-    loop {
-        let c = look(s, i);
-        if stops_at(c) {
-            return Read::Ok { end: i, sum };
-        }
-        let one = repeated(s, i, depth);
-        let Read::Ok { end, sum: more } = one else {
-            return one;
-        };
-        sum = seq_sum(sum, more);
+    while !stops_at(byte_at(s, i)) {
+        let (end, more) = repeated(s, i, depth)?;
+        sum = sum.then(more);
         i = end;
     }
+    Ok((i, sum))
 }
 
 // An atom, and perhaps one of `* + ?`. What it asks `sequence` shows.
 #[cycle(alternatives_atomic_repeated_sequence)]
+#[inline(always)]
 pub fn repeated(s: &[u8], at: usize, depth: usize) -> Read
     requires { (at ≤ length s.now) × (depth ≤ 16) × (length s.now ≤ 255) }
     ensures { result ≡ measured (read s.now piece depth at) }
 {
-    let one = atomic(s, at, depth);
-    let Read::Ok { end, sum } = one else {
-        return one;
-    };
-    let c = look(s, end);
-    if repeats(c) {
-        return Read::Ok {
-            end: end + 1,
-            sum: rep_sum(sum),
-        };
+    let (end, sum) = atomic(s, at, depth)?;
+    match repeat_of(byte_at(s, end)) {
+        Some(_) => Ok((end + 1, sum.forked())),
+        None => Ok((end, sum)),
     }
-    one
 }
 
 // An atom: a group, or one that is none. What it asks `repeated` shows.
@@ -221,23 +184,18 @@ pub fn atomic(s: &[u8], at: usize, depth: usize) -> Read
     requires { (at ≤ length s.now) × (depth ≤ 16) × (length s.now ≤ 255) }
     ensures { result ≡ measured (read s.now atom depth at) }
 {
-    if look(s, at) != 40 {
-        return lone(s, at);
+    if byte_at(s, at) != Some(b'(') {
+        let (end, atom) = lone(s, at)?;
+        return Ok((end, atom.sum()));
     }
     // how many groups are open here
     let open = depth;
-    if open == 16 {
-        return Read::Deep(at);
+    if open == GROUPS {
+        return Err(Fault::Deep(at));
     }
-    let inner = alternatives(s, at + 1, depth + 1);
-    let Read::Ok { end, sum } = inner else {
-        return inner;
-    };
-    if look(s, end) != 41 {
-        return Read::Form(end);
+    let (end, sum) = alternatives(s, at + 1, depth + 1)?;
+    if byte_at(s, end) != Some(b')') {
+        return Err(Fault::Form(end));
     }
-    Read::Ok {
-        end: end + 1,
-        sum: sum,
-    }
+    Ok((end + 1, sum))
 }

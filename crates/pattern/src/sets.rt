@@ -1,13 +1,14 @@
 // Bracket sets, read byte by byte.
-ghost use Rattle.std.specs.Prelude.{◌≡◌, List, [], ◌++◌, ℕ, ◌≤◌, ◌<◌, ◌+◌, get_or, length, drop};
-ghost use Rattle.pattern.specs.Sets.{Item, against, seek, names, listed, lists, span, gained, item, ends, upto, set_on, after_name, class_of};
+#![tactic(auto, unfolding(ground::specs::Pick::pick, crate::specs::Sets::set_on, crate::specs::Sets::gained))]
+
+ghost use Rattle.std.specs.Prelude.{◌≡◌, List, [], ◌∷◌, ◌++◌, ℕ, ◌≤◌, ◌<◌, ◌+◌, get_or, length, drop};
+ghost use Rattle.pattern.specs.Sets.{against, seek, names, lists, gained, item, ends, upto, set_on};
 ghost use Rattle.pattern.specs.Sets as steps;
-ghost use Rattle.pattern.specs.Tests.{among};
-ghost use Rattle.pattern.specs.Standing.{word, told, stands, Sound, Stepped, items_of, raised, Marks, Listed, seen, boxed};
+ghost use Rattle.pattern.specs.Standing.{word, told, stands, Sound, Stepped, item_of, items_of, raised, Shown, Marks, Shows, Listed, seen, boxed};
 
 // Where the text of a set stands, after its `[` or `[^`.
 #[derive(Clone, Copy)]
-pub enum Stand {
+enum Stand {
     Fresh,
     Ready,
     Held(u8),
@@ -17,305 +18,240 @@ pub enum Stand {
     // Within `[:name:]`, whose bytes after the `[` start at that place.
     Name(usize),
     Shut,
-    Bad,
 }
 
-// How bytes stand to the words `:name:]` of the classes: all of one, the beginning of one, or neither.
+// How bytes stand to the words `:name:]` of the classes: they are the word of a class, or begin one.
 #[derive(Clone, Copy)]
-pub enum Word {
+enum Word {
     Whole(u8),
     Begun,
-    Nothing,
 }
 
-// What reading a set finds: the place after it, or the place of the fault.
+// An item of a set: the bytes from one to another, or those of a class.
 #[derive(Clone, Copy)]
-pub enum Scanned {
-    At(usize),
-    Wrong(usize),
-}
-
-// The item that a byte completes: none, the bytes from one to another, or those of a class.
-#[derive(Clone, Copy)]
-pub enum Gain {
-    Nothing,
+enum Item {
     Span(u8, u8),
     Class(u8),
 }
 
-const WORDS: [u8; 108] =
-    *b":alnum:]\0:alpha:]\0:blank:]\0:cntrl:]\0:digit:]\0:graph:]\0:lower:]\0:print:]\0:punct:]\0:space:]\0:upper:]\0:xdigit:]";
+// What follows the `[` in the name of each class.
+const WORDS: [&[u8]; 12] = [
+    b":alnum:]",
+    b":alpha:]",
+    b":blank:]",
+    b":cntrl:]",
+    b":digit:]",
+    b":graph:]",
+    b":lower:]",
+    b":print:]",
+    b":punct:]",
+    b":space:]",
+    b":upper:]",
+    b":xdigit:]",
+];
 
-// Byte t of the word of class k.
-fn word_byte(k: usize, t: usize) -> u8
-    requires { (k < 12) × (t < 9) }
-    ensures { result ≡ get_or (word k) t 0 }
-{
-    WORDS[k * 9 + t]
-}
-
-// Only `xdigit` has six letters.
-fn word_len(k: usize) -> usize
+// The word of class k.
+fn word_of(k: usize) -> &'static [u8]
     requires { k < 12 }
-    ensures { result ≡ length (word k) }
+    ensures { result.now ≡ word k }
 {
-    if k == 11 { 9 } else { 8 }
+    WORDS[k]
 }
 
 // The bytes w against the word of class k.
-fn compare(w: &[u8], k: usize) -> Word
+#[tactic(auto, using(crate::proofs::Words::against_is), unfolding(ground::specs::Pick::pick))]
+fn compare(w: &[u8], k: usize) -> Option<Word>
     requires { k < 12 }
     ensures { told result ≡ against w.now (word k) k }
 {
-    let whole = word_len(k);
-    let mut t = 0usize;
-    while t < w.len() {
-        if whole <= t {
-            return Word::Nothing;
-        }
-        if w[t] != word_byte(k, t) {
-            return Word::Nothing;
-        }
-        t += 1;
+    let word = word_of(k);
+    if !word.starts_with(w) {
+        return None;
     }
-    if t == whole {
-        return Word::Whole(k as u8);
+    // all of the word, not a beginning of it
+    let whole = word.len();
+    if w.len() == whole {
+        return Some(Word::Whole(k as u8));
     }
-    Word::Begun
+    Some(Word::Begun)
 }
 
 // The bytes w against the words of all classes.
-fn find(w: &[u8]) -> Word
+fn find(w: &[u8]) -> Option<Word>
     ensures { told result ≡ seek w.now names 0 }
 {
-    let mut k = 0usize;
-    while k < 12 {
-        let r = compare(w, k);
-        match r {
-            Word::Nothing => {}
-            _ => {
-                return r;
-            }
+    for k in 0..WORDS.len() {
+        if let Some(r) = compare(w, k) {
+            return Some(r);
         }
-        k += 1;
     }
-    Word::Nothing
+    None
 }
 
-// An item begins with the byte c at i.
-fn begins(s: &[u8], i: usize, c: u8) -> Stand
-    requires { i < length s.now }
-    ensures { Stepped s.now i (item c) result }
+// Where the byte c at i leads, if an item begins with it.
+fn begins(i: usize, c: u8) -> Option<Stand>
+    requires { i < usize.MAX }
+    ensures { (s : List ℕ) → Stepped s i (item c) result }
 {
-    if c == 92 {
-        return Stand::Quote;
+    match c {
+        b'\\' => Some(Stand::Quote),
+        b'[' => Some(Stand::Name(i + 1)),
+        b']' | b'-' | b'^' => None,
+        _ => Some(Stand::Held(c)),
     }
-    if c == 91 {
-        return Stand::Name(i + 1);
-    }
-    if c == 93 {
-        return Stand::Bad;
-    }
-    if c == 45 {
-        return Stand::Bad;
-    }
-    if c == 94 {
-        return Stand::Bad;
-    }
-    Stand::Held(c)
 }
 
-// The set ends with the byte c at i, or an item begins.
-fn closes(s: &[u8], i: usize, c: u8) -> Stand
-    requires { i < length s.now }
-    ensures { Stepped s.now i (ends c) result }
+// Where the byte c at i leads, if the set ends or an item begins with it.
+fn closes(i: usize, c: u8) -> Option<Stand>
+    requires { i < usize.MAX }
+    ensures { (s : List ℕ) → Stepped s i (ends c) result }
 {
-    if c == 93 {
-        return Stand::Shut;
+    if c == b']' {
+        return Some(Stand::Shut);
     }
-    begins(s, i, c)
+    begins(i, c)
 }
 
-// A span from a to d.
-fn reaches(s: &[u8], i: usize, a: u8, d: u8) -> Stand
-    requires { i < length s.now }
-    ensures { Stepped s.now i (upto a d) result }
+// Where a span from a to d leads.
+fn reaches(a: u8, d: u8) -> Option<Stand>
+    ensures { (s : List ℕ) (i : ℕ) → Stepped s i (upto a d) result }
 {
-    if d < a {
-        return Stand::Bad;
-    }
-    Stand::Ready
+    (a <= d).then_some(Stand::Ready)
 }
 
-// What follows a `-`: `[ ] - ^` stand for themselves only after `\`.
-fn dashes(s: &[u8], i: usize, a: u8, c: u8) -> Stand
-    requires { i < length s.now }
-    ensures { Stepped s.now i (set_on (steps.dash a) c) result }
+// Where the byte c leads after a and `-`: `[ ] - ^` stand for themselves only after `\`.
+fn dashes(a: u8, c: u8) -> Option<Stand>
+    ensures { (s : List ℕ) (i : ℕ) → Stepped s i (set_on (steps.dash a) c) result }
 {
-    if c == 92 {
-        return Stand::DashQuote(a);
+    match c {
+        b'\\' => Some(Stand::DashQuote(a)),
+        b'[' | b']' | b'-' | b'^' => None,
+        _ => reaches(a, c),
     }
-    if c == 91 {
-        return Stand::Bad;
-    }
-    if c == 93 {
-        return Stand::Bad;
-    }
-    if c == 45 {
-        return Stand::Bad;
-    }
-    if c == 94 {
-        return Stand::Bad;
-    }
-    reaches(s, i, a, c)
 }
 
-// The name that began at from goes on with the byte at i.
-fn names_on(s: &[u8], from: usize, i: usize) -> Stand
+// Where the byte at i leads within the name that began at from.
+#[tactic(auto, using(crate::proofs::SetSteps::name_on))]
+fn names_on(s: &[u8], from: usize, i: usize) -> Option<Stand>
     requires { (i < length s.now) × (from ≤ i) }
     ensures { Stepped s.now i (set_on (stands s.now i (Stand.Name from)) (get_or s.now i 0)) result }
 {
-    let end = i + 1;
-    let w = &s[from..end];
-    match find(w) {
-        Word::Whole(_) => Stand::Ready,
-        Word::Begun => Stand::Name(from),
-        Word::Nothing => Stand::Bad,
+    match find(&s[from..=i])? {
+        Word::Whole(_) => Some(Stand::Ready),
+        Word::Begun => Some(Stand::Name(from)),
     }
 }
 
-// The byte at i leads on.
-fn step_on(s: &[u8], i: usize, st: Stand) -> Stand
+// Where the byte at i leads, if a set goes on so.
+fn step_on(s: &[u8], i: usize, st: Stand) -> Option<Stand>
     requires { (i < length s.now) × Sound i st }
     ensures { Stepped s.now i (set_on (stands s.now i st) (get_or s.now i 0)) result }
 {
     let c = s[i];
     match st {
-        Stand::Fresh => begins(s, i, c),
-        Stand::Ready => closes(s, i, c),
-        Stand::Held(a) => {
-            if c == 45 {
-                return Stand::Dash(a);
-            }
-            closes(s, i, c)
-        }
-        Stand::Quote => Stand::Held(c),
-        Stand::Dash(a) => dashes(s, i, a, c),
-        Stand::DashQuote(a) => reaches(s, i, a, c),
+        Stand::Fresh => begins(i, c),
+        Stand::Ready => closes(i, c),
+        Stand::Held(a) => if c == b'-' {
+            Some(Stand::Dash(a))
+        } else {
+            closes(i, c)
+        },
+        Stand::Quote => Some(Stand::Held(c)),
+        Stand::Dash(a) => dashes(a, c),
+        Stand::DashQuote(a) => reaches(a, c),
         Stand::Name(from) => names_on(s, from, i),
-        Stand::Shut => Stand::Bad,
-        Stand::Bad => Stand::Bad,
+        Stand::Shut => None,
     }
-}
-
-// Whether b lies from a to d.
-fn between(a: u8, d: u8, b: u8) -> bool
-    ensures { result ≡ lists b (span a d) }
-{
-    if a <= b {
-        return b <= d;
-    }
-    false
 }
 
 // The class whose name began at from and ends at i.
-fn class_at(s: &[u8], from: usize, i: usize) -> Gain
+#[tactic(auto, using(crate::proofs::SetSteps::name_gained))]
+fn class_at(s: &[u8], from: usize, i: usize) -> Option<Item>
     requires { (i < length s.now) × (from ≤ i) }
     ensures { items_of result ≡ gained (stands s.now i (Stand.Name from)) (get_or s.now i 0) }
 {
-    let end = i + 1;
-    let w = &s[from..end];
-    match find(w) {
-        Word::Whole(k) => Gain::Class(k),
-        _ => Gain::Nothing,
+    match find(&s[from..=i]) {
+        Some(Word::Whole(k)) => Some(Item::Class(k)),
+        _ => None,
     }
 }
 
 // The item that the byte at i shows to be complete.
-fn item_at(s: &[u8], i: usize, st: Stand) -> Gain
+fn item_at(s: &[u8], i: usize, st: Stand) -> Option<Item>
     requires { (i < length s.now) × Sound i st }
     ensures { items_of result ≡ gained (stands s.now i st) (get_or s.now i 0) }
 {
     let c = s[i];
     match st {
-        Stand::Held(a) => {
-            if c == 45 {
-                return Gain::Nothing;
-            }
-            Gain::Span(a, a)
-        }
-        Stand::Dash(a) => {
-            if c == 92 {
-                return Gain::Nothing;
-            }
-            Gain::Span(a, c)
-        }
-        Stand::DashQuote(a) => Gain::Span(a, c),
+        Stand::Held(a) => (c != b'-').then_some(Item::Span(a, a)),
+        Stand::Dash(a) => (c != b'\\').then_some(Item::Span(a, c)),
+        Stand::DashQuote(a) => Some(Item::Span(a, c)),
         Stand::Name(from) => class_at(s, from, i),
-        _ => Gain::Nothing,
+        _ => None,
     }
 }
 
 // Whether b is one of the item's bytes.
-fn has(x: Gain, b: u8) -> bool
-    ensures { result ≡ listed b (items_of x) }
+fn has(x: Item, b: u8) -> bool
+    ensures { result ≡ lists b (item_of x) }
 {
     match x {
-        Gain::Nothing => false,
-        Gain::Span(a, d) => between(a, d, b),
-        Gain::Class(k) => classes::in_class(k, b),
+        Item::Span(a, d) => a <= b && b <= d,
+        Item::Class(k) => classes::in_class(k, b),
     }
 }
 
-// A mark is set, or stays.
-fn raise(hit: bool, old: u8) -> u8
-    ensures { result ≡ raised hit old }
+// Of the item's bytes those that have a mark are marked, and the other marks stay.
+fn mark_item(x: Item, marks: &mut [u8])
+    requires { length marks.old ≤ 256 }
+    ensures { (b : ℕ) → b < length marks.old → get_or marks.new b 0 ≡ raised (lists b (item_of x)) (get_or marks.old b 0) }
 {
-    if hit {
-        return 1;
-    }
-    old
-}
-
-// The item's bytes are marked, and the other marks stay.
-fn mark_item(x: Gain, marks: &mut [u8])
-    requires { length marks.old ≡ 256 }
-    ensures { (xs : List Item) → Marks marks.old xs → Marks marks.new (xs ++ items_of x) }
-{
-    if let Gain::Nothing = x {
-        return;
-    }
-    let mut b = 0usize;
-    while b < 256 {
-        let hit = has(x, b as u8);
-        marks[b] = raise(hit, marks[b]);
-        b += 1;
-    }
-}
-
-// The bytes that the rest of a set lists, from i on, are marked. A loop, so that a long set asks for no more stack.
-fn mark(s: &[u8], i: usize, st: Stand, marks: &mut [u8])
-    requires { (i ≤ length s.now) × Sound i st × (length marks.old ≡ 256) }
-    ensures { (xs : List Item) → Marks marks.old xs → Listed marks.new (steps.scan (drop i s.now) i (stands s.now i st) xs) }
-{
-    let mut at = i;
-    let mut cur = st;
-    while at < s.len() {
-        let x = item_at(s, at, cur);
-        mark_item(x, marks);
-        let next = step_on(s, at, cur);
-        match next {
-            Stand::Bad => {
-                return;
-            }
-            Stand::Shut => {
-                return;
-            }
-            _ => {}
+    for (b, mark) in marks.iter_mut().enumerate() {
+        if has(x, b as u8) {
+            *mark = 1;
         }
-        cur = next;
-        at += 1;
     }
+}
+
+// A set from the place after its `[` or `[^` on: the place after it, or the first at which no set goes on. Its bytes that have a mark
+// are marked. A loop, so that a long set asks for no more stack.
+fn scan(s: &[u8], from: usize, marks: &mut [u8]) -> Result<usize, usize>
+    requires from_in { from ≤ length s.now }
+    requires few { length marks.old ≤ 256 }
+    requires none { Shown marks.old [] }
+    ensures end { result ≡ seen (steps.scan (drop from s.now) from steps.fresh []) }
+    ensures marked { Shows marks.new (steps.scan (drop from s.now) from steps.fresh []) }
+{
+    let mut st = Stand::Fresh;
+    for i in from..s.len() {
+        if let Some(x) = item_at(s, i, st) {
+            mark_item(x, marks);
+        }
+        let Some(next) = step_on(s, i, st) else {
+            return Err(i);
+        };
+        if let Stand::Shut = next {
+            return Ok(i + 1);
+        }
+        st = next;
+    }
+    Err(s.len())
+}
+
+// The set whose `[` stands at i, as `scan` reads it. Its caller has seen the `[`.
+#[tactic(auto, unfolding(crate::specs::Standing::boxed))]
+fn set_at(s: &[u8], i: usize, marks: &mut [u8]) -> Result<usize, usize>
+    requires at_in { i < length s.now }
+    requires few { length marks.old ≤ 256 }
+    requires none { Shown marks.old [] }
+    ensures end { result ≡ seen (boxed s.now i) }
+    ensures marked { Shows marks.new (boxed s.now i) }
+{
+    let after = i + 1;
+    if after < s.len() && s[after] == b'^' {
+        return scan(s, after + 1, marks);
+    }
+    scan(s, after, marks)
 }
 
 // The bytes that the set lists whose `[` stands at i are marked. Its caller has seen the `[` and lends 256 marks.
@@ -323,44 +259,13 @@ pub fn mark_set(s: &[u8], i: usize, marks: &mut [u8])
     requires { (i < length s.now) × Marks marks.old [] }
     ensures { Listed marks.new (boxed s.now i) }
 {
-    if crate::text::look(s, i + 1) == 94 {
-        mark(s, i + 2, Stand::Fresh, marks);
-        return;
-    }
-    mark(s, i + 1, Stand::Fresh, marks)
+    let _ = set_at(s, i, marks);
 }
 
-// The end of a set from i on, by a loop too.
-fn scan(s: &[u8], i: usize, st: Stand) -> Scanned
-    requires { (i ≤ length s.now) × Sound i st }
-    ensures { (xs : List Item) → result ≡ seen (steps.scan (drop i s.now) i (stands s.now i st) xs) }
-{
-    let mut at = i;
-    let mut cur = st;
-    while at < s.len() {
-        let next = step_on(s, at, cur);
-        match next {
-            Stand::Bad => {
-                return Scanned::Wrong(at);
-            }
-            Stand::Shut => {
-                return Scanned::At(at + 1);
-            }
-            _ => {}
-        }
-        cur = next;
-        at += 1;
-    }
-    Scanned::Wrong(at)
-}
-
-// The end of the set whose `[` stands at i. Its caller has seen the `[`.
-pub fn bracket(s: &[u8], i: usize) -> Scanned
+// The end of the set whose `[` stands at i, or where no set goes on: no marks are lent. Its caller has seen the `[`.
+pub fn bracket(s: &[u8], i: usize) -> Result<usize, usize>
     requires { i < length s.now }
     ensures { result ≡ seen (boxed s.now i) }
 {
-    if crate::text::look(s, i + 1) == 94 {
-        return scan(s, i + 2, Stand::Fresh);
-    }
-    scan(s, i + 1, Stand::Fresh)
+    set_at(s, i, &mut [])
 }

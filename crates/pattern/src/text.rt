@@ -1,50 +1,39 @@
 // The bytes of a pattern text.
 ghost use Rattle.std.specs.Prelude.{◌≡◌};
 ghost use Rattle.ground.specs.Pick as pick;
-ghost use Rattle.pattern.specs.Reader.{barred, stops, repeating};
+ghost use Rattle.pattern.specs.Reader.{stops};
+ghost use Rattle.pattern.specs.Text.{number_of, IsRepeat};
 
-// The byte at i, or 256 where the text has none.
-pub fn look(s: &[u8], i: usize) -> usize
-    ensures { result ≡ pick.look s.now i }
+// The byte at i, if the text has one.
+pub fn byte_at(s: &[u8], i: usize) -> Option<u8>
+    ensures { number_of result ≡ pick.look s.now i }
 {
-    if i < s.len() { s[i] as usize } else { 256 }
+    s.get(i).copied()
 }
 
 // A byte that ends a sequence, or the end.
-pub fn stops_at(c: usize) -> bool
-    ensures { result ≡ stops c }
+pub fn stops_at(c: Option<u8>) -> bool
+    ensures { result ≡ stops (number_of c) }
 {
-    if c == 124 {
-        return true;
-    }
-    if c == 41 {
-        return true;
-    }
-    c == 256
+    matches!(c, None | Some(b'|' | b')'))
 }
 
-// A byte that repeats an atom.
-pub fn repeats(c: usize) -> bool
-    ensures { result ≡ repeating c }
-{
-    if c == 42 {
-        return true;
-    }
-    if c == 43 {
-        return true;
-    }
-    c == 63
+// What `*`, `+` and `?` say of the atom before them.
+#[derive(Clone, Copy)]
+pub enum Repeat {
+    Star,
+    Plus,
+    Query,
 }
 
-// A byte that begins no atom, or the end.
-pub fn bars(c: usize) -> bool
-    ensures { result ≡ barred c }
+// Whether a byte repeats an atom, and how.
+pub fn repeat_of(c: Option<u8>) -> Option<Repeat>
+    ensures { IsRepeat (number_of c) result }
 {
-    if stops_at(c) {
-        return true;
+    match c {
+        Some(b'*') => Some(Repeat::Star),
+        Some(b'+') => Some(Repeat::Plus),
+        Some(b'?') => Some(Repeat::Query),
+        _ => None,
     }
-    if repeats(c) {
-        return true;
-    }
-    c == 93
 }

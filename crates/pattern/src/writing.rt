@@ -1,24 +1,33 @@
-// Writing a pattern's records: what was measured, written in order with the numbers that follow.
-ghost use Rattle.std.specs.Prelude.{◌≡◌, List, [], ◌∷◌, ℕ, ◌≤◌, ◌<◌, ◌+◌, length};
-ghost use Rattle.std.proofs.lemmas.List.Edits.{sets};
+// Writing a pattern's records: what was measured, written in order with the numbers that follow. What is refused writes nothing, and no
+// fault is told: `pattern` has measured the whole text first, and told it.
+ghost use Rattle.std.specs.Prelude.{◌≡◌, ◌≤◌, ◌<◌, ◌+◌, length};
 ghost use Rattle.ground.specs.Lists.{Wrote};
-ghost use Rattle.net.specs.Rec.{range, mask, fork, tag, end};
+ghost use Rattle.net.specs.Rec.{range, mask, fork, end};
 ghost use Rattle.net.specs.File.{rec_bytes};
 ghost use Rattle.pattern.specs.Pat.{start_at};
 ghost use Rattle.pattern.specs.Sets.{octet, octets};
-ghost use Rattle.pattern.specs.Reader.{read, single, set_at, alts, seq, piece, atom};
-ghost use Rattle.pattern.specs.Writing.{Room, coded, shown, head_of, filed};
+ghost use Rattle.pattern.specs.Reader.{read, set_at, alts, seq, piece, atom};
+ghost use Rattle.pattern.specs.Atoms.{Ready, bits_of, record_of};
+ghost use Rattle.pattern.specs.Writing.{Room, coded, shown, filed};
 
-use crate::reading::{Read, Sum, alternatives, atomic, repeated, sequence, set};
+use crate::reading::{Atom, GROUPS, Sum, alternatives, atomic, lone, repeated, sequence};
 use crate::sets::mark_set;
-use crate::text::{bars, look, stops_at};
+use crate::text::{Repeat, byte_at, repeat_of, stops_at};
 
-// What makes a piece repeat: `*`, `+` and `?`.
-const STAR: usize = 42;
+// The kinds of a file's items, as document 01 numbers them.
+const HEAD: u8 = 0x10;
 
-const PLUS: usize = 43;
+const RANGE: u8 = 0x11;
 
-const QUERY: usize = 63;
+const MASK: u8 = 0x12;
+
+const FORK: u8 = 0x13;
+
+const TAG: u8 = 0x14;
+
+const END: u8 = 0x15;
+
+const EDITION: u8 = 1;
 
 // Where a piece of that many records starts that stands at n and is followed by f.
 fn start_at(size: usize, n: usize, f: usize) -> usize
@@ -27,41 +36,30 @@ fn start_at(size: usize, n: usize, f: usize) -> usize
     if size == 0 { f } else { n }
 }
 
-// A kind and two numbers, from o on; the place after them is handed back.
-fn put_pair(out: &mut [u8], o: usize, kind: u8, a: usize, b: usize) -> usize
-    requires { (o + 3 ≤ length out.old) × (a < 256) × (b < 256) }
-    ensures { Wrote out.old out.new o result (kind ∷ a ∷ b ∷ []) }
+// Those bytes, from o on; the place after them is handed back.
+fn put(out: &mut [u8], o: usize, bytes: &[u8]) -> usize
+    requires { o + length bytes.now ≤ length out.old }
+    ensures { Wrote out.old out.new o result bytes.now }
 {
-    out[o] = kind;
-    out[o + 1] = a as u8;
-    out[o + 2] = b as u8;
-    o + 3
+    let end = o + bytes.len();
+    out[o..end].copy_from_slice(bytes);
+    end
 }
 
-// One record of each kind, from o on; the place after it is handed back.
+// A FORK's record, from o on.
 fn put_fork(out: &mut [u8], o: usize, a: usize, b: usize) -> usize
     requires { (o + 3 ≤ length out.old) × (a < 256) × (b < 256) }
     ensures { Wrote out.old out.new o result (rec_bytes (fork a b)) }
 {
-    put_pair(out, o, 19, a, b)
+    put(out, o, &[FORK, a as u8, b as u8])
 }
 
-fn put_tag(out: &mut [u8], o: usize, t: usize, next: usize) -> usize
-    requires { (o + 3 ≤ length out.old) × (t < 256) × (next < 256) }
-    ensures { Wrote out.old out.new o result (rec_bytes (tag t next)) }
-{
-    put_pair(out, o, 20, t, next)
-}
-
-fn put_range(out: &mut [u8], o: usize, lo: usize, hi: usize, next: usize) -> usize
-    requires { (o + 4 ≤ length out.old) × (lo < 256) × (hi < 256) × (next < 256) }
+// A RANGE's record, from o on.
+fn put_range(out: &mut [u8], o: usize, lo: u8, hi: u8, next: usize) -> usize
+    requires { (o + 4 ≤ length out.old) × (next < 256) }
     ensures { Wrote out.old out.new o result (rec_bytes (range lo hi next)) }
 {
-    out[o] = 17;
-    out[o + 1] = lo as u8;
-    out[o + 2] = hi as u8;
-    out[o + 3] = next as u8;
-    o + 4
+    put(out, o, &[RANGE, lo, hi, next as u8])
 }
 
 // Whether a set with these marks allows b, after `^` or without it.
@@ -69,10 +67,7 @@ fn allows(marks: &[u8], caret: bool, b: usize) -> bool
     requires { b < length marks.now }
     ensures { result ≡ shown caret marks.now b }
 {
-    if caret {
-        return marks[b] != 1;
-    }
-    marks[b] == 1
+    (marks[b] == 1) != caret
 }
 
 // Eight bits of the set's MASK from byte b on, b's lowest.
@@ -80,17 +75,11 @@ fn eight(marks: &[u8], caret: bool, b: usize) -> u8
     requires { (length marks.now ≡ 256) × (b + 8 ≤ 256) }
     ensures { result ≡ octet (shown caret marks.now) 8 b }
 {
-    let mut bits = 0usize;
-    let mut j = 8usize;
-    while 0 < j {
-        j -= 1;
-        if allows(marks, caret, b + j) {
-            bits = 2 * bits + 1;
-        } else {
-            bits = 2 * bits;
-        }
+    let mut bits = 0u8;
+    for j in (0..8).rev() {
+        bits = 2 * bits + u8::from(allows(marks, caret, b + j));
     }
-    bits as u8
+    bits
 }
 
 // The record of a set with these marks.
@@ -98,63 +87,35 @@ fn put_mask(marks: &[u8], caret: bool, out: &mut [u8], o: usize, next: usize) ->
     requires { (length marks.now ≡ 256) × (o + 34 ≤ length out.old) × (next < 256) }
     ensures { Wrote out.old out.new o result (rec_bytes (mask (octets (shown caret marks.now) 32 0) next)) }
 {
-    out[o] = 18;
-    let mut k = 0usize;
-    while k < 32 {
-        out[o + 1 + k] = eight(marks, caret, 8 * k);
-        k += 1;
+    let mut p = put(out, o, &[MASK]);
+    for k in 0..32 {
+        p = put(out, p, &[eight(marks, caret, 8 * k)]);
     }
-    out[o + 33] = next as u8;
-    o + 34
+    put(out, p, &[next as u8])
 }
 
-// The set whose `[` stands there, or nothing where it is refused.
-fn emit_set(s: &[u8], at: usize, out: &mut [u8], o: usize, n: usize, f: usize) -> usize
-    requires { (at < length s.now) × Room (set_at s.now at) n f o (length out.old) }
-    ensures { Wrote out.old out.new o result (coded (set_at s.now at) n f) }
+// The record of the set whose `[` stands there. Its caller has read it.
+fn put_set(s: &[u8], at: usize, out: &mut [u8], o: usize, next: usize) -> usize
+    requires { Ready s.now at Atom.Set × (o + length (rec_bytes (mask (bits_of (set_at s.now at)) next)) ≤ length out.old) × (next < 256) }
+    ensures { Wrote out.old out.new o result (rec_bytes (mask (bits_of (set_at s.now at)) next)) }
 {
-    let found = set(s, at);
-    let Read::Ok { end: _, sum: _ } = found else {
-        return o;
-    };
     let mut marks = [0u8; 256];
     mark_set(s, at, &mut marks);
-    let caret = look(s, at + 1) == 94;
-    put_mask(&marks, caret, out, o, f)
+    let caret = byte_at(s, at + 1) == Some(b'^');
+    put_mask(&marks, caret, out, o, next)
 }
 
-// One atom that is no group.
-fn emit_lone(s: &[u8], at: usize, out: &mut [u8], o: usize, n: usize, f: usize) -> usize
-    requires { (at ≤ length s.now) × Room (single s.now at) n f o (length out.old) }
-    ensures { Wrote out.old out.new o result (coded (single s.now at) n f) }
+// The record of an atom that was read there.
+fn put_atom(s: &[u8], at: usize, a: Atom, out: &mut [u8], o: usize, next: usize) -> usize
+    requires { Ready s.now at a × (o + length (rec_bytes (record_of (bits_of (set_at s.now at)) a next)) ≤ length out.old) × (next < 256) }
+    ensures { Wrote out.old out.new o result (rec_bytes (record_of (bits_of (set_at s.now at)) a next)) }
 {
-    let c = look(s, at);
-    if c == 92 {
-        let e = look(s, at + 1);
-        if e == 256 {
-            return o;
-        }
-        return put_range(out, o, e, e, f);
+    match a {
+        Atom::Byte(c) => put_range(out, o, c, c, next),
+        Atom::Any => put_range(out, o, 0, 255, next),
+        Atom::Tag(t) => put(out, o, &[TAG, t, next as u8]),
+        Atom::Set => put_set(s, at, out, o, next),
     }
-    if c == 64 {
-        let t = look(s, at + 1);
-        if 48 <= t {
-            if t <= 55 {
-                return put_tag(out, o, t - 48, f);
-            }
-        }
-        return o;
-    }
-    if c == 46 {
-        return put_range(out, o, 0, 255, f);
-    }
-    if c == 91 {
-        return emit_set(s, at, out, o, n, f);
-    }
-    if bars(c) {
-        return o;
-    }
-    put_range(out, o, c, c, f)
 }
 
 // Alternatives: the first record has number n and stands at o, and f is what follows. They are measured as a whole first: so none is
@@ -172,8 +133,7 @@ fn emit_alternatives(
     requires { (at ≤ length s.now) × (depth ≤ 16) × (length s.now ≤ 255) × Room (read s.now alts depth at) n f o (length out.old) }
     ensures { Wrote out.old out.new o result (coded (read s.now alts depth at) n f) }
 {
-    let whole = alternatives(s, at, depth);
-    let Read::Ok { end: _, sum } = whole else {
+    let Ok((_, sum)) = alternatives(s, at, depth) else {
         return o;
     };
     let last = n + sum.size;
@@ -181,11 +141,10 @@ fn emit_alternatives(
     let mut k = n;
     let mut p = o;
     loop {
-        let one = sequence(s, i, depth);
-        let Read::Ok { end, sum: more } = one else {
+        let Ok((end, more)) = sequence(s, i, depth) else {
             return p;
         };
-        if look(s, end) != 124 {
+        if byte_at(s, end) != Some(b'|') {
             return emit_sequence(s, i, depth, out, p, k, f);
         }
         let size = more.size;
@@ -213,20 +172,15 @@ fn emit_sequence(
     requires { (at ≤ length s.now) × (depth ≤ 16) × (length s.now ≤ 255) × Room (read s.now seq depth at) n f o (length out.old) }
     ensures { Wrote out.old out.new o result (coded (read s.now seq depth at) n f) }
 {
-    let whole = sequence(s, at, depth);
-    let Read::Ok { end: _, sum } = whole else {
+    let Ok((_, sum)) = sequence(s, at, depth) else {
         return o;
     };
     let last = n + sum.size;
     let mut i = at;
     let mut k = n;
     let mut p = o;
-    loop {
-        if stops_at(look(s, i)) {
-            return p;
-        }
-        let one = repeated(s, i, depth);
-        let Read::Ok { end, sum: more } = one else {
+    while !stops_at(byte_at(s, i)) {
+        let Ok((end, more)) = repeated(s, i, depth) else {
             return p;
         };
         let next = k + more.size;
@@ -235,6 +189,7 @@ fn emit_sequence(
         k = next;
         i = end;
     }
+    p
 }
 
 // An atom, and the FORK that repeats it.
@@ -251,28 +206,25 @@ fn emit_repeated(
     requires { (at ≤ length s.now) × (depth ≤ 16) × (length s.now ≤ 255) × Room (read s.now piece depth at) n f o (length out.old) }
     ensures { Wrote out.old out.new o result (coded (read s.now piece depth at) n f) }
 {
-    let one = atomic(s, at, depth);
-    let Read::Ok { end, sum } = one else {
+    let Ok((end, sum)) = atomic(s, at, depth) else {
         return o;
     };
     let size = sum.size;
-    let c = look(s, end);
-    if c == STAR {
-        let x = start_at(size, n + 1, n);
-        let a = put_fork(out, o, x, f);
-        return emit_atomic(s, at, depth, out, a, n + 1, n);
+    match repeat_of(byte_at(s, end)) {
+        Some(Repeat::Star) => {
+            let a = put_fork(out, o, start_at(size, n + 1, n), f);
+            emit_atomic(s, at, depth, out, a, n + 1, n)
+        }
+        Some(Repeat::Plus) => {
+            let a = emit_atomic(s, at, depth, out, o, n, n + size);
+            put_fork(out, a, start_at(size, n, n + size), f)
+        }
+        Some(Repeat::Query) => {
+            let a = put_fork(out, o, start_at(size, n + 1, f), f);
+            emit_atomic(s, at, depth, out, a, n + 1, f)
+        }
+        None => emit_atomic(s, at, depth, out, o, n, f),
     }
-    if c == PLUS {
-        let x = start_at(size, n, n + size);
-        let a = emit_atomic(s, at, depth, out, o, n, n + size);
-        return put_fork(out, a, x, f);
-    }
-    if c == QUERY {
-        let x = start_at(size, n + 1, f);
-        let a = put_fork(out, o, x, f);
-        return emit_atomic(s, at, depth, out, a, n + 1, f);
-    }
-    emit_atomic(s, at, depth, out, o, n, f)
 }
 
 // An atom.
@@ -289,41 +241,22 @@ fn emit_atomic(
     requires { (at ≤ length s.now) × (depth ≤ 16) × (length s.now ≤ 255) × Room (read s.now atom depth at) n f o (length out.old) }
     ensures { Wrote out.old out.new o result (coded (read s.now atom depth at) n f) }
 {
-    if look(s, at) != 40 {
-        return emit_lone(s, at, out, o, n, f);
+    if byte_at(s, at) != Some(b'(') {
+        let Ok((_, a)) = lone(s, at) else {
+            return o;
+        };
+        return put_atom(s, at, a, out, o, f);
     }
-    if depth == 16 {
+    if depth == GROUPS {
         return o;
     }
-    let inner = alternatives(s, at + 1, depth + 1);
-    let Read::Ok { end, sum: _ } = inner else {
+    let Ok((end, _)) = alternatives(s, at + 1, depth + 1) else {
         return o;
     };
-    if look(s, end) != 41 {
+    if byte_at(s, end) != Some(b')') {
         return o;
     }
     emit_alternatives(s, at + 1, depth + 1, out, o, n, f)
-}
-
-// The HEAD.
-fn put_head(out: &mut [u8], tags: u8, count: usize)
-    requires { (4 ≤ length out.old) × (count < 256) }
-    ensures { Wrote out.old out.new 0 4 (head_of tags count) }
-{
-    out[0] = 16;
-    out[1] = 1;
-    out[2] = tags;
-    out[3] = count as u8;
-}
-
-// The last record.
-fn put_end(out: &mut [u8], o: usize, answer: u8) -> usize
-    requires { o + 2 ≤ length out.old }
-    ensures { Wrote out.old out.new o result (rec_bytes (end answer)) }
-{
-    out[o] = 21;
-    out[o + 1] = answer;
-    o + 2
 }
 
 // The automaton file of a text that was measured so, where END has that answer. `pattern` has compared the measures with the limits
@@ -332,9 +265,8 @@ pub fn put_file(s: &[u8], out: &mut [u8], sum: Sum, answer: u8) -> usize
     requires { (length s.now ≤ 255) × (sum.size < 64) × Room (read s.now alts 0 0) 0 sum.size 4 (length out.old) × (4 + length (coded (read s.now alts 0 0) 0 sum.size) + 2 ≤ length out.old) }
     ensures { Wrote out.old out.new 0 result (filed (read s.now alts 0 0) sum.size sum.tags answer) }
 {
-    let size = sum.size;
-    let tags = sum.tags;
-    put_head(out, tags, size + 1);
-    let o = emit_alternatives(s, 0, 0, out, 4, 0, size);
-    put_end(out, o, answer)
+    let count = sum.size + 1;
+    let o = put(out, 0, &[HEAD, EDITION, sum.tags, count as u8]);
+    let o = emit_alternatives(s, 0, 0, out, o, 0, sum.size);
+    put(out, o, &[END, answer])
 }

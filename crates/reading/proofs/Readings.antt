@@ -8,13 +8,11 @@ use lib.ListN.{length, get_or-eq_default}
 use mir.Syntax.{w16}
 use mir.Val.{SFits, to_z, of_z}
 use mir.ValLaws.{to_z-of_z}
-use Rattle.ground.specs.Place.{place_of, absent}
-use Rattle.ground.specs.declared.Place.{Place}
-use Rattle.ground.specs.declared.Place.TheVariants.{At, Absent}
+use Rattle.std.specs.Prelude.{Some, None, Err}
+use Rattle.ground.specs.Place.{Place, place_of, absent}
 use Rattle.ground.proofs.Places.{at_none}
-use Rattle.answers.specs.Answers.{FIELD_ABSENT}
+use Rattle.answers.specs.declared.Refusal.TheVariants.{FieldAbsent}
 use Rattle.field.specs.Field.{cut_of, code_of, Handed}
-use Rattle.field.specs.declared.Cut.TheVariants.{Refused}
 use Rattle.field.proofs.Cuts.{one_part}
 use Rattle.reading.specs.Reading.{position_of, cut_by}
 use Rattle.reading.specs.declared.Reading.{Reading}
@@ -27,31 +25,31 @@ cut_found line places a b {x} {y} f g e h =
     ap₂ (λ (v w : ℤ). cut_of (length line) (place_of v) (place_of w)) (to_z-of_z w16 x f ∙ e) (to_z-of_z w16 y g ∙ h)
 
 -- "a tag above 7 counting as absent"
-pub above_seven : (places : List ℤ) (t : ℕ) → length places ≤ t → place_of (position_of places t) ≡ Absent
+pub above_seven : (places : List ℤ) (t : ℕ) → length places ≤ t → place_of (position_of places t) ≡ None
 unfolding position_of
 above_seven places t h = ap place_of (get_or-eq_default places absent h) ∙ at_none
 
-second_absent : (n : ℕ) (p : Place) → cut_of n p Absent ≡ Refused FIELD_ABSENT
+second_absent : (n : ℕ) (p : Place) → cut_of n p None ≡ Err FieldAbsent
 unfolding cut_of
-second_absent n Absent = refl
-second_absent n (At a) = refl
+second_absent n None = refl
+second_absent n (Some a) = refl
 
-first_absent : (n : ℕ) (q : Place) → cut_of n Absent q ≡ Refused FIELD_ABSENT
+first_absent : (n : ℕ) (q : Place) → cut_of n None q ≡ Err FieldAbsent
 unfolding cut_of
 first_absent n q = refl
 
 -- so, whichever of the two it is, the answer is 17
-pub from_above_seven : (line : List ℕ) (places : List ℤ) (a b : ℕ) → length places ≤ a → cut_by line places a b ≡ Refused FIELD_ABSENT
+pub from_above_seven : (line : List ℕ) (places : List ℤ) (a b : ℕ) → length places ≤ a → cut_by line places a b ≡ Err FieldAbsent
 unfolding cut_by
 from_above_seven line places a b h =
     ap (λ (p : Place). cut_of (length line) p (place_of (position_of places b))) (above_seven places a h) ∙ first_absent (length line) _
 
-pub to_above_seven : (line : List ℕ) (places : List ℤ) (a b : ℕ) → length places ≤ b → cut_by line places a b ≡ Refused FIELD_ABSENT
+pub to_above_seven : (line : List ℕ) (places : List ℤ) (a b : ℕ) → length places ≤ b → cut_by line places a b ≡ Err FieldAbsent
 unfolding cut_by
 to_above_seven line places a b h =
     ap (cut_of (length line) (place_of (position_of places a))) (above_seven places b h) ∙ second_absent (length line) _
 
--- a second result that meets the promise of `position`, of `hold`, of `code_between`, `code` and `code_of`, or of `part_between`,
+-- a second result that meets the promise of `position`, of `hold`, of `code` and `code_of`, or of
 -- `part` and `part_of` is equal (a part: the same bytes at the same place of memory)
 pub one_position : (places : List ℤ) (t : ℕ) {v w : ℤ} → v ≡ position_of places t → w ≡ position_of places t → v ≡ w
 one_position places t e f = e ∙ sym f

@@ -2,8 +2,7 @@
 -- Assumes nothing: these are definitions.
 use Rattle.std.specs.Prelude.{ℕ, List, ℤ, length, get_or}
 use Rattle.ground.specs.Place.{place_of, absent}
-use Rattle.field.specs.Field.{cut_of}
-use Rattle.field.specs.declared.Cut.{Cut}
+use Rattle.field.specs.Field.{Cut, cut_of}
 
 -- the position of tag t among the eight; past them, absent
 unfoldable pub position_of : List ℤ → ℕ → ℤ

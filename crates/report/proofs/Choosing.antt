@@ -1,7 +1,7 @@
 -- Which line is printed, by the tests that choose it. Assumes nothing.
 use mathlib.Core.Path.{◌≡◌, sym, ap, ap₂, ◌∙◌, subst}
 use mathlib.Core.List.{List, ◌++◌}
-use Prim.Native.Nat.{ℕ, ◌+◌, ◌-◌, ◌≤◌, ◌<◌}
+use Prim.Native.Nat.{ℕ, ◌+◌, ◌≤◌, ◌<◌}
 use native.Mathlib.Omega.{arith}
 use lib.ListN.{length, length-take, take, drop, replicate, take-append-drop}
 use Rattle.ground.specs.Lists.{each}
@@ -10,11 +10,10 @@ use Rattle.card.specs.Table.{Table}
 use Rattle.card.specs.Decode.{table_at}
 use Rattle.card.specs.Run.{line_max, Told, tells}
 use Rattle.pattern.specs.Maker.{Given, given, maker}
-use Rattle.pattern.specs.declared.Made.{Made}
-use Rattle.build.specs.Build.{Done, build_of, Builds}
-use Rattle.build.specs.declared.Built.{Built}
+use Rattle.pattern.specs.Made.{Made}
+use Rattle.build.specs.Build.{Answer, Done, build_of, Builds}
 use Rattle.report.specs.Text.{Wrote}
-use Rattle.report.specs.Lines.{refused_line, refused_at, table_line, answer_line, over_line}
+use Rattle.report.specs.Lines.{refused_line, table_line, answer_line, over_line}
 use Rattle.report.specs.Printed.{lines, told_line, record_line, built_lines, fault_line, made_lines, pattern_lines, report, printed, Prints}
 use Rattle.report.specs.Steps.{line_length}
 use Rattle.report.proofs.Splitting.{as_reported}
@@ -47,19 +46,6 @@ module _ (T : Table) (w : List ℕ) where
   unfolding record_line
   record_told h = sym (pick_not_lt line_max (length w) _ _ h)
 
-module _ (code place : ℕ) where
-  pub fault_form : code ≡ 2 → refused_at code place ≡ fault_line code place
-  unfolding fault_line
-  fault_form e = sym (pick_eq code 2 _ _ e)
-
-  pub fault_deep : (code ≡ 2 → ⊥) → code ≡ 3 → refused_at code place ≡ fault_line code place
-  unfolding fault_line
-  fault_deep n e = sym (pick_ne code 2 _ _ n ∙ pick_eq code 3 _ _ e)
-
-  pub fault_other : (code ≡ 2 → ⊥) → (code ≡ 3 → ⊥) → refused_line code ≡ fault_line code place
-  unfolding fault_line
-  fault_other n m = sym (pick_ne code 2 _ _ n ∙ pick_ne code 3 _ _ m)
-
 module _ (d : Done) (records : List (List ℕ)) where
   pub built_refused : (d.result.code ≡ 0 → ⊥) → refused_line d.result.code ≡ built_lines d records
   unfolding built_lines
@@ -80,7 +66,7 @@ module _ (g : Given) (records : List (List ℕ)) where
   made_lines_lem e = sym (pick_eq g.answer.code 0 _ _ e)
 
 -- what the builder gives of a pattern that is made
-pub made_built : (g : Given) (records : List (List ℕ)) {file work out work' out' : List ℕ} {a : Built} → file ≡ take g.answer.length g.after → length work ≡ 65536
+pub made_built : (g : Given) (records : List (List ℕ)) {file work out work' out' : List ℕ} {a : Answer} → file ≡ take g.answer.length g.after → length work ≡ 65536
     → out ≡ replicate 65536 0 → Builds file work out work' out' a → g.answer.code ≡ 0 → built_lines (record { result = a; out = out' }) records ≡ made_lines g records
 made_built g records {file} {work} {out} {work'} {out'} {a} f l o b z =
     ap (λ d. built_lines d records)
@@ -100,13 +86,11 @@ module _ (s : List ℕ) where
   printed_report h = sym (pick_not_lt 65536 (length s) _ _ h)
 
   -- the pattern is the line that ends at `end`, and the records follow it
-  pub printed_lines : (end : ℕ) → end ≡ line_length s → length s ≤ 65536 → {m : Made} {net : List ℕ} → given m net ≡ maker (take (end - 0) s) (replicate 2148 0)
+  pub printed_lines : (end : ℕ) → end ≡ line_length s → length s ≤ 65536 → {m : Made} {net : List ℕ} → given m net ≡ maker (take end s) (replicate 2148 0)
       → made_lines (given m net) (lines (drop (end + 1) s)) ≡ printed s
   unfolding pattern_lines
   printed_lines end h l e =
-      let n : end - 0 ≡ end = omega arith in
       ap (λ g. made_lines g (lines (drop (end + 1) s))) e
-      ∙ ap (λ k. pattern_lines (take k s) (lines (drop (end + 1) s))) n
       ∙ ap (λ k. pattern_lines (take k s) (lines (drop (k + 1) s))) h
       ∙ sym (as_reported s)
       ∙ printed_report l

@@ -1,17 +1,20 @@
 -- The lines of an input, one after the other, and what is left to write. Assumes nothing.
 use mathlib.Core.Path.{◌≡◌, refl, sym, ap, ◌∙◌, subst}
-use mathlib.Core.Bool.{Bool, true, false}
+use mathlib.Core.Bool.{Bool, true, false, cond, not}
 use mathlib.Core.List.{List, [], ◌∷◌, ◌++◌, append-nil, append_assoc}
 use Prim.Native.Nat.{ℕ, zero, suc, ◌+◌, ◌-◌, ◌≤◌, ◌<◌}
 use native.Mathlib.Omega.{arith}
 use native.Mathlib.Numerals.{add-one}
-use lib.ListN.{length, take, drop, get_or, length-drop}
-use lib.Seq.{drop-cons, drop-drop}
-use lib.Dec.{eqb}
-use borrow.Author.Tests.{eq-eqb, ne_eqb}
+use lib.ListN.{length, take, drop, length-drop}
+use lib.Seq.{drop-drop, take_all}
+use lib.Dec.{eqb, ltb}
+use borrow.Author.Tests.{ltb-false}
+use Rattle.std.specs.Prelude.{Option, Some, None, unwrap_or}
+use Rattle.std.specs.List.{position_or_len}
+use Rattle.std.proofs.lemmas.List.Recursion.{is_position_or_len}
+use Rattle.std.proofs.lemmas.List.Sums.{prefix_len-le-length}
 use Rattle.ground.specs.Pick.{pick}
 use Rattle.ground.specs.Lists.{each}
-use Rattle.ground.proofs.Lists.{peel}
 use Rattle.report.specs.Text.{Wrote}
 use Rattle.report.specs.Printed.{longer, lines, pattern_lines, report}
 use Rattle.report.specs.Steps.{line_length, Going}
@@ -48,20 +51,31 @@ as_reported (b ∷ s) =
 
 -- ---- its end
 
-pub ends_here : (s : List ℕ) (i : ℕ) → i < length s → get_or s i 0 ≡ 10 → line_length (drop i s) ≡ 0
+line_end : (s : List ℕ) → line_length s ≡ position_or_len (λ b. eqb b 10) s
 unfolding line_length pick
-ends_here s i h e = rw (drop-cons s i 0 h, eq-eqb (get_or s i 0) 10 e)
+line_end = is_position_or_len line_length (λ b. eqb b 10) refl (λ x s. step (eqb x 10) (line_length s))
+  where
+    step : (t : Bool) (n : ℕ) → pick t 0 (suc n) ≡ cond t 0 (1 + n)
+    step true n = refl
+    step false n = omega arith
 
-pub goes_past : (s : List ℕ) (i : ℕ) → i < length s → (get_or s i 0 ≡ 10 → ⊥) → line_length (drop i s) ≡ suc (line_length (drop (i + 1) s))
-unfolding line_length pick
-goes_past s i h n = rw (peel s i 0 h, ne_eqb (get_or s i 0) 10 n)
+-- the first byte 10, as the library finds it
+abbrev pub Found : List ℕ → Option ℕ → Type 0
+Found s r = r ≡ cond (ltb (position_or_len (λ b. eqb b 10) s) (length s)) (Some (position_or_len (λ b. eqb b 10) s)) None
 
-pub ends_last : (s : List ℕ) (i : ℕ) → length s ≤ i → line_length (drop i s) ≡ 0
-unfolding line_length
-ends_last [] zero h = refl
-ends_last [] (suc i) h = refl
-ends_last (b ∷ s) zero h = absurd (omega arith)
-ends_last (b ∷ s) (suc i) h = ends_last s i (omega arith)
+found_at : (k l : ℕ) → k ≤ l → (t : Bool) → t ≡ ltb k l → unwrap_or (cond t (Some k) None) l ≡ k
+found_at k l h true q = refl
+found_at k l h false q = let g : l ≤ k = ltb-false k l (sym q) in omega arith
+
+pub line_found : (s : List ℕ) (r : Option ℕ) → Found s r → (unwrap_or r (length s) ≡ line_length s) × (line_length s ≤ length s)
+line_found s r h =
+    let k = prefix_len-le-length (λ b. not (eqb b 10)) s in
+    let e = line_end s in
+    (rw h (found_at (position_or_len (λ b. eqb b 10) s) (length s) k (ltb (position_or_len (λ b. eqb b 10) s) (length s)) refl ∙ sym e), omega (arith, k, e))
+
+-- from a place on
+pub tail_all : (s : List ℕ) (n : ℕ) → take (length s - n) (drop n s) ≡ drop n s
+tail_all s n = take_all (length s - n) (drop n s) (simp length-drop (omega arith))
 
 -- ---- one record after the other
 

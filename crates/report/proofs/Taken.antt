@@ -2,7 +2,7 @@
 use mathlib.Core.Path.{◌≡◌, refl, sym, ap, ◌∙◌, subst}
 use mathlib.Core.Bool.{Bool, true, false}
 use mathlib.Core.List.{List, [], ◌∷◌}
-use Prim.Native.Nat.{ℕ, zero, suc, ◌+◌, ◌-◌, ◌≤◌, ◌<◌}
+use Prim.Native.Nat.{ℕ, zero, suc, ◌+◌, ◌≤◌, ◌<◌}
 use native.Mathlib.Omega.{arith}
 use lib.ListN.{length, take, drop, get_or}
 use lib.Seq.{sets, sets-eq, length-sets, take_at}
@@ -17,12 +17,13 @@ use Rattle.net.proofs.Inverse.{written}
 use Rattle.pattern.specs.Pat.{size}
 use Rattle.pattern.specs.Reader.{Res, ok, form, deep, alts, read}
 use Rattle.pattern.specs.Maker.{Given, given, file, judged, maker}
-use Rattle.pattern.specs.declared.Made.{Made}
+use Rattle.pattern.specs.Made.{Made, made_of}
+use Rattle.pattern.specs.declared.Fault.{Fault}
+use Rattle.std.specs.Prelude.{Result, Ok, Err, IfOk}
 use Rattle.card.specs.Table.{bytes_of}
 use Rattle.card.specs.Judged.{Judged}
 use Rattle.build.specs.Card.{table_of}
-use Rattle.build.specs.Build.{Done, over_registers, over_situations, makes, of_net, build_of, Builds}
-use Rattle.build.specs.declared.Built.{Built}
+use Rattle.build.specs.Build.{Done, over_registers, over_situations, makes, of_net, build_of, Answer, Builds}
 use Rattle.build.proofs.Verdict.{registers_true, situations_true}
 use Rattle.built.specs.Fits.{Fits}
 use Rattle.built.proofs.States.{fits_exactly}
@@ -30,10 +31,6 @@ use Rattle.built.proofs.Answers.{build_taken}
 use Rattle.report.specs.Steps.{Sound}
 
 -- ---- small things
-
--- a part from the front
-pub front : (n : ℕ) (l : List ℕ) → take (n - 0) l ≡ take n l
-front n l = let e : n - 0 ≡ n = omega arith in ap (λ k. take k l) e
 
 pub taken_bytes : (s : List ℕ) (n : ℕ) → ((i : ℕ) → get_or s i 0 < 256) → (i : ℕ) → get_or (take n s) i 0 < 256
 taken_bytes [] zero h i = omega arith
@@ -85,11 +82,15 @@ module _ (s out : List ℕ) where
   maker_kept = by_pick Kept (ltb 255 (length s)) _ _ (λ t. refl) (λ t. judged_kept (read s alts 0 0))
 
 -- the automaton file that was made lies in its buffer
-pub made_room : (s out : List ℕ) {out' : List ℕ} {m : Made} → given m out' ≡ maker s out → m.code ≡ 0 → m.length ≤ length out'
+made_long : (s out : List ℕ) {out' : List ℕ} {m : Made} → given m out' ≡ maker s out → m.code ≡ 0 → m.length ≤ length out'
 unfolding Kept
-made_room s out {out'} {m} e z =
+made_long s out {out'} {m} e z =
     let i = made_inside s out (sym (ap (λ g. g.answer.code) e) ∙ z) in
     omega (arith, i, maker_kept s out, ap (λ g. g.answer.length) e, ap (λ g. length g.after) e)
+
+pub made_room : (s out : List ℕ) {out' : List ℕ} (r : Result ℕ Fault) → given (made_of r) out' ≡ maker s out → IfOk r (λ n. n ≤ length out')
+made_room s out (Ok n) e = made_long s out e refl
+made_room s out (Err f) e = tt
 
 -- ---- the builder
 
@@ -155,7 +156,7 @@ unfolding build_of Whole
 build_whole file out room = by_pick (Whole out) (ltb room 65536) _ _ (λ t. refl) (λ t. of_whole out (net_of file))
 
 -- what a build leaves
-pub build_sound : {file work out work' out' : List ℕ} {a : Built} → ((i : ℕ) → get_or file i 0 < 256) → Builds file work out work' out' a → Sound a out'
+pub build_sound : {file work out work' out' : List ℕ} {a : Answer} → ((i : ℕ) → get_or file i 0 < 256) → Builds file work out work' out' a → Sound a out'
 unfolding Good Whole
 build_sound {file} {work} {out} {work'} {out'} {a} bytes b =
     let g = build_good file out (length work) bytes in

@@ -5,9 +5,11 @@ use Prim.Native.Nat.{ℕ, zero, suc, ◌+◌, ◌-◌, ◌/◌, ◌%◌, ◌≤�
 use native.Mathlib.Omega.{arith}
 use native.Mathlib.Decide.{dec_lt}
 use native.Mathlib.Numerals.{add-one}
-use lib.ListN.{length, take, drop, get_or, set, length-set, length-append}
-use lib.Seq.{take-suc, take-suc-set, take_all, drop-set-lt, drop-drop}
+use lib.ListN.{length, take, drop, get_or, length-append, length-take, length-drop}
+use lib.Seq.{take-suc, drop-drop}
 use borrow.Author.Tests.{lt-ltb, le-ltb}
+use borrow.Rule.Slice.PartMut.{put_mid}
+use Rattle.std.proofs.lemmas.Slice.{take-put_mid, drop-put_mid}
 use lib.IntN.{ℤ}
 use Rattle.ground.specs.Pick.{pick}
 use Rattle.ground.specs.Lists.{each}
@@ -17,10 +19,6 @@ use Rattle.report.specs.Text.{digits, Wrote}
 
 pub wrote_none : (l : List ℕ) (at : ℕ) → Wrote l l at at []
 wrote_none l at = record { size = refl; next = omega arith; before = sym (append-nil (take at l)); beyond = refl }
-
-pub wrote_byte : (l : List ℕ) (at b : ℕ) → at < length l → Wrote l (set l at b) at (at + 1) (b ∷ [])
-wrote_byte l at b h =
-    record { size = length-set l at b; next = refl; before = rw add-one (take-suc-set l at b h); beyond = drop-set-lt (at + 1) l at b (omega arith) }
 
 pub wrote_then : {a b c : List ℕ} {at m r : ℕ} {t u : List ℕ} → Wrote a b at m t → Wrote b c m r u → Wrote a c at r (t ++ u)
 wrote_then {a} {b} {c} {at} {m} {r} {t} {u} x y =
@@ -74,19 +72,18 @@ put_more {a} {b} {c} {at} {m} {r} n (suc k) z h x y =
     let e : suc k - 1 ≡ k = omega arith in
     rw (digits_more k n h) (wrote_then (subst (λ (j : ℕ). Wrote a b at m (digits j (n / 10))) e x) y)
 
--- ---- a text, byte by byte
+-- ---- a text
 
-pub wrote_more : (a b text : List ℕ) (at i : ℕ) → i < length text → at + length text ≤ length a → Wrote a b at (at + i) (take i text)
-    → Wrote a (set b (at + i) (get_or text i 0)) at (at + (i + 1)) (take (i + 1) text)
-wrote_more a b text at i h room w =
-    let s = w.size in
-    let e : at + i + 1 ≡ at + (i + 1) = omega arith in
-    let t : take i text ++ (get_or text i 0 ∷ []) ≡ take (i + 1) text = rw add-one (sym (take-suc text i 0 h)) in
-    subst (λ (r : ℕ). Wrote a (set b (at + i) (get_or text i 0)) at r (take (i + 1) text)) e
-    (subst (Wrote a (set b (at + i) (get_or text i 0)) at (at + i + 1)) t (wrote_then w (wrote_byte b (at + i) (get_or text i 0) (omega arith))))
-
-pub wrote_all : (a b text : List ℕ) (at i : ℕ) → length text ≤ i → i ≤ length text → Wrote a b at (at + i) (take i text) → Wrote a b at (at + i) text
-wrote_all a b text at i l m w = subst (Wrote a b at (at + i)) (take_all i text l) w
+pub wrote_text : (l text new : List ℕ) (at : ℕ) → at + length text ≤ length l → new ≡ text → Wrote l (put_mid at (at + length text - at) l new) at (at + length text) text
+wrote_text l text new at h e =
+    let k : length new ≡ length text = ap length e in
+    let p : at ≤ length l = omega arith in
+    record {
+      size = simp (length-append, length-take, length-drop) (omega arith);
+      next = refl;
+      before = take-put_mid at (at + length text - at) l new (at + length text) (omega arith) p ∙ ap (λ t. take at l ++ t) e;
+      beyond = drop-put_mid at (at + length text - at) l new (at + length text) (omega arith) p (omega arith);
+    }
 
 -- ---- one position more
 

@@ -3,7 +3,7 @@ use Rattle.std.specs.Prelude.{◌≡◌, List, [], ◌∷◌, ◌++◌, ℕ, suc
 use Rattle.ground.specs.Pick.{pick}
 use Rattle.card.specs.Judged.{Judged}
 use Rattle.image.specs.Image.{Mounts}
-use Rattle.build.specs.declared.Built.{Built}
+use Rattle.build.specs.Build.{Answer}
 use Rattle.report.specs.Text.{Wrote}
 
 -- how many bytes stand before the first byte 10, or all
@@ -35,6 +35,6 @@ pub record Going (a b : List ℕ) (at r : ℕ) (whole left : List ℕ) : Type 0 
   pub rest : text ++ left ≡ whole
 
 -- what a build that is not refused gives lies in the output and is a table that the loader takes
-pub record Sound (b : Built) (out : List ℕ) : Type 0 where
+pub record Sound (b : Answer) (out : List ℕ) : Type 0 where
   pub inside : b.code ≡ 0 → b.length ≤ length out
   pub taken : b.code ≡ 0 → Judged (take b.length out) 0

@@ -1,8 +1,7 @@
 -- Text: numbers in decimal, and what a writer leaves in a buffer. Assumes nothing: these are definitions.
-use Rattle.std.specs.Prelude.{◌≡◌, List, [], ◌∷◌, ◌++◌, ℕ, zero, suc, ◌+◌, ◌/◌, ◌%◌, length, take, drop, ltb}
+use Rattle.std.specs.Prelude.{Some, None, ◌≡◌, List, [], ◌∷◌, ◌++◌, ℕ, zero, suc, ◌+◌, ◌/◌, ◌%◌, length, take, drop, ltb}
 use Rattle.ground.specs.Pick.{pick}
-use Rattle.ground.specs.declared.Place.{Place}
-use Rattle.ground.specs.declared.Place.TheVariants.{At, Absent}
+use Rattle.ground.specs.Place.{Place}
 
 -- a number of at most k digits in decimal
 unfoldable pub digits : ℕ → ℕ → List ℕ
@@ -15,8 +14,8 @@ decimal n = digits 7 n
 
 -- a position: its place, or -1
 abbrev pub shown : Place → List ℕ
-shown (At n) = decimal n
-shown Absent = 45 ∷ 49 ∷ []
+shown (Some n) = decimal n
+shown None = 45 ∷ 49 ∷ []
 
 -- `text` was written over `a` at a place, which gives b, and r is the place after it; what stands from r on is as it was
 pub record Wrote (a b : List ℕ) (at r : ℕ) (text : List ℕ) : Type 0 where

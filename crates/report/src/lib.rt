@@ -1,7 +1,7 @@
 // What the program prints, as bytes in a lent buffer.
 #![tactic(auto)]
 
-ghost use Rattle.std.specs.Prelude.{◌≡◌, [], ◌∷◌, ◌++◌, ◌+◌, ◌<◌, ◌≤◌, pos, length, get_or, drop};
+ghost use Rattle.std.specs.Prelude.{IfOk, ◌≡◌, [], ◌∷◌, ◌++◌, ◌+◌, ◌<◌, ◌≤◌, pos, length, get_or, drop};
 ghost use Rattle.report.specs.Text.{digits, decimal, shown, Wrote};
 ghost use Rattle.report.specs.Lines.{refused_line, refused_at, table_line, answer_line, spaced};
 ghost use Rattle.report.specs.Printed.{lines, told_line, record_line, built_lines, fault_line, made_lines, Prints};
@@ -11,16 +11,17 @@ ghost use Rattle.ground.specs.Place.{place_of};
 ghost use Rattle.card.specs.Decode.{table_at};
 ghost use Rattle.run.specs.Runs.{told_of};
 ghost use Rattle.pattern.specs.Maker.{given};
+ghost use Rattle.pattern.specs.Made.{made_of};
+ghost use Rattle.pattern.specs.Made as pattern_made;
+ghost use Rattle.build.specs.Build.{answered};
 
+use answers::Refusal;
 use build::Built;
-use ground::Place;
-use pattern::Made;
-use run::Ran;
+use pattern::Fault;
+use run::Match;
 
-// The refusals of a pattern that have a place.
-const FORM: u8 = 2;
-
-const DEEP: u8 = 3;
+// The buffer and the place stay two parameters: of a struct that holds the buffer, each contract would also have to say that it
+// still holds the same one.
 
 // One byte at a place.
 fn put_byte(out: &mut [u8], at: usize, b: u8) -> usize
@@ -40,10 +41,10 @@ fn put_digits(out: &mut [u8], at: usize, n: usize, k: usize) -> usize
         return at;
     }
     if n < 10 {
-        return put_byte(out, at, n as u8 + 48);
+        return put_byte(out, at, n as u8 + b'0');
     }
     let end = put_digits(out, at, n / 10, k - 1);
-    put_byte(out, end, (n % 10) as u8 + 48)
+    put_byte(out, end, (n % 10) as u8 + b'0')
 }
 
 // A text at a place.
@@ -51,22 +52,20 @@ fn put_text(out: &mut [u8], at: usize, text: &[u8]) -> usize
     requires { at + length text.now ≤ length out.old }
     ensures { Wrote out.old out.new at result text.now }
 {
-    let mut i: usize = 0;
-    while i < text.len() {
-        out[at + i] = text[i];
-        i += 1;
-    }
-    at + i
+    let end = at + text.len();
+    out[at..end].copy_from_slice(text);
+    end
 }
 
 // A position by what it says: its place, or -1.
-fn put_shown(out: &mut [u8], at: usize, p: Place) -> usize
+#[tactic(auto, using(crate::proofs::Writing::digits_few))]
+fn put_shown(out: &mut [u8], at: usize, p: Option<usize>) -> usize
     requires { at + 7 ≤ length out.old }
     ensures { Wrote out.old out.new at result (shown p) × (result ≤ at + 7) }
 {
     match p {
-        Place::At(n) => put_digits(out, at, n, 7),
-        Place::Absent => put_text(out, at, b"-1"),
+        Some(n) => put_digits(out, at, n, 7),
+        None => put_text(out, at, b"-1"),
     }
 }
 
@@ -75,11 +74,12 @@ fn put_position(out: &mut [u8], at: usize, v: i16) -> usize
     requires { at + 8 ≤ length out.old }
     ensures { Wrote out.old out.new at result (spaced v) × (result ≤ at + 8) }
 {
-    let after = put_byte(out, at, 32);
+    let after = put_byte(out, at, b' ');
     put_shown(out, after, ground::place_of(v))
 }
 
 // A number in decimal.
+#[tactic(auto, using(crate::proofs::Writing::digits_few))]
 fn put_number(out: &mut [u8], at: usize, n: usize) -> usize
     requires { at + 7 ≤ length out.old }
     ensures { Wrote out.old out.new at result (decimal n) × (result ≤ at + 7) }
@@ -93,8 +93,8 @@ fn put_refused(out: &mut [u8], at: usize, code: u8) -> usize
     ensures { Wrote out.old out.new at result (refused_line code) × (result ≤ at + 16) }
 {
     let number = put_text(out, at, b"refused ");
-    let end = put_number(out, number, code as usize);
-    put_byte(out, end, 10)
+    let end = put_number(out, number, usize::from(code));
+    put_byte(out, end, b'\n')
 }
 
 // A refusal by its number and its place in the pattern.
@@ -103,10 +103,10 @@ fn put_refused_at(out: &mut [u8], at: usize, code: u8, place: usize) -> usize
     ensures { Wrote out.old out.new at result (refused_at code place) }
 {
     let number = put_text(out, at, b"refused ");
-    let word = put_number(out, number, code as usize);
+    let word = put_number(out, number, usize::from(code));
     let of = put_text(out, word, b" at ");
     let end = put_number(out, of, place);
-    put_byte(out, end, 10)
+    put_byte(out, end, b'\n')
 }
 
 // What was built: the table's bytes, its situations, its registers.
@@ -120,15 +120,7 @@ fn put_table(out: &mut [u8], at: usize, bytes: usize, sits: usize, regs: usize) 
     let next = put_number(out, second, sits);
     let third = put_text(out, next, b" registers ");
     let end = put_number(out, third, regs);
-    put_byte(out, end, 10)
-}
-
-// One of eight positions.
-fn nth(places: [i16; 8], i: usize) -> i16
-    requires { i < 8 }
-    ensures { result ≡ get_or places i (pos 0) }
-{
-    places[i]
+    put_byte(out, end, b'\n')
 }
 
 // Eight positions, each after a space.
@@ -137,11 +129,8 @@ fn put_places(out: &mut [u8], at: usize, places: [i16; 8]) -> usize
     ensures { Wrote out.old out.new at result (each spaced places) × (result ≤ at + 64) }
 {
     let mut end = at;
-    let mut i: usize = 0;
-    while i < 8 {
-        let v = nth(places, i);
+    for v in places {
         end = put_position(out, end, v);
-        i += 1;
     }
     end
 }
@@ -151,9 +140,9 @@ fn put_answer(out: &mut [u8], at: usize, answer: u8, places: [i16; 8]) -> usize
     requires { at + 72 ≤ length out.old }
     ensures { Wrote out.old out.new at result (answer_line answer places) × (result ≤ at + 72) }
 {
-    let first = put_number(out, at, answer as usize);
+    let first = put_number(out, at, usize::from(answer));
     let end = put_places(out, first, places);
-    put_byte(out, end, 10)
+    put_byte(out, end, b'\n')
 }
 
 // ---- from the input to the lines
@@ -163,27 +152,19 @@ fn line_end(s: &[u8], from: usize) -> usize
     requires { from ≤ length s.now }
     ensures { (result ≡ from + line_length (drop from s.now)) × (result ≤ length s.now) }
 {
-    let mut i = from;
-    while i < s.len() {
-        if s[i] == 10 {
-            return i;
-        }
-        i += 1;
-    }
-    i
+    let rest = &s[from..];
+    from + rest.iter().position(|b| *b == b'\n').unwrap_or(rest.len())
 }
 
 // What a run told of a record.
-fn put_told(out: &mut [u8], at: usize, told: Ran) -> usize
+fn put_told(out: &mut [u8], at: usize, told: Result<Match, Refusal>) -> usize
     requires { at + 72 ≤ length out.old }
     ensures { Wrote out.old out.new at result (told_line (told_of told)) × (result ≤ at + 72) }
 {
-    let code = told.code;
-    if code != 0 {
-        return put_refused(out, at, code);
+    match told {
+        Ok(m) => put_answer(out, at, m.answer, m.places),
+        Err(e) => put_refused(out, at, u8::from(e)),
     }
-    let places = told.places;
-    put_answer(out, at, told.answer, places)
 }
 
 // A record: what a taken table tells of it, or that it is too long. A ride over the table's image says both.
@@ -230,6 +211,7 @@ fn put_records(
 {
     let mut end = at;
     let mut place = from;
+    // A loop: lines differ in length, so the next place is known only after the line.
     while place < input.len() {
         let stop = line_end(input, place);
         let line = &input[place..stop];
@@ -247,51 +229,60 @@ fn put_records(
 
 // The table line and the records, or the builder's refusal alone. The table is judged and mounted once; its image has
 // room for 96 situations.
-fn put_built(out: &mut [u8], table: &[u8], built: Built, input: &[u8], from: usize) -> usize
+fn put_built(
+    out: &mut [u8],
+    table: &[u8],
+    built: Result<Built, Refusal>,
+    input: &[u8],
+    from: usize,
+) -> usize
     requires room_in_bounds { (room ≤ length out.old) × (length input.now ≤ 65536) }
-    requires sound { Sound built table.now }
-    ensures { Wrote out.old out.new 0 result (built_lines (record { result = built; out = table.now }) (lines (drop from input.now))) }
+    requires sound { Sound (answered built) table.now }
+    ensures { Wrote out.old out.new 0 result (built_lines (record { result = answered built; out = table.now }) (lines (drop from input.now))) }
 {
-    let code = built.code;
-    if code != 0 {
-        return put_refused(out, 0, code);
-    }
-    let length = built.length;
-    let card = &table[0..length];
+    let b = match built {
+        Ok(b) => b,
+        Err(e) => return put_refused(out, 0, u8::from(e)),
+    };
+    let card = &table[..b.length];
     let mut image = [0u32; 24672];
-    image::mount(card, &mut image);
-    let at = put_table(out, 0, length, built.situations, built.registers);
+    let _ = image::mount(card, &mut image);
+    let at = put_table(out, 0, b.length, b.situations, b.registers);
     put_records(out, at, card, &image, input, from)
 }
 
 // A pattern's refusal, with its place where it has one.
-fn put_fault(out: &mut [u8], code: u8, place: usize) -> usize
+#[tactic(auto, unfolding(crate::specs::Printed::fault_line, ground::specs::Pick::pick))]
+fn put_fault(out: &mut [u8], fault: Fault) -> usize
     requires { 27 ≤ length out.old }
-    ensures { Wrote out.old out.new 0 result (fault_line code place) }
+    ensures { Wrote out.old out.new 0 result (fault_line (pattern_made.code_of fault) (pattern_made.place_of fault)) }
 {
-    if code == FORM {
-        return put_refused_at(out, 0, code, place);
+    let code = u8::from(Refusal::from(fault));
+    match fault {
+        Fault::Form(place) | Fault::Deep(place) => put_refused_at(out, 0, code, place),
+        Fault::Long | Fault::Big | Fault::Small => put_refused(out, 0, code),
     }
-    if code == DEEP {
-        return put_refused_at(out, 0, code, place);
-    }
-    put_refused(out, 0, code)
 }
 
 // What is printed once the pattern is made or refused.
-fn put_made(out: &mut [u8], net: &[u8], made: Made, input: &[u8], from: usize) -> usize
+fn put_made(
+    out: &mut [u8],
+    net: &[u8],
+    made: Result<usize, Fault>,
+    input: &[u8],
+    from: usize,
+) -> usize
     requires room_in_bounds { (room ≤ length out.old) × (length input.now ≤ 65536) }
-    requires length_in_bounds { made.code ≡ 0 → made.length ≤ length net.now }
-    ensures { Wrote out.old out.new 0 result (made_lines (given made net.now) (lines (drop from input.now))) }
+    requires length_in_bounds { IfOk made (λ n. n ≤ length net.now) }
+    ensures { Wrote out.old out.new 0 result (made_lines (given (made_of made) net.now) (lines (drop from input.now))) }
 {
-    let code = made.code;
-    if code != 0 {
-        return put_fault(out, code, made.place);
-    }
-    let length = made.length;
+    let length = match made {
+        Ok(length) => length,
+        Err(fault) => return put_fault(out, fault),
+    };
     let mut work = [0u8; 65536];
     let mut table = [0u8; 65536];
-    let built = build::build(&net[0..length], &mut work, &mut table);
+    let built = build::build(&net[..length], &mut work, &mut table);
     put_built(out, &table, built, input, from)
 }
 
@@ -304,6 +295,6 @@ pub fn answer(input: &[u8], out: &mut [u8; 4718643]) -> usize
     }
     let end = line_end(input, 0);
     let mut net = [0u8; 2148];
-    let made = pattern::pattern(&input[0..end], &mut net);
+    let made = pattern::pattern(&input[..end], &mut net);
     put_made(out, &net, made, input, end + 1)
 }

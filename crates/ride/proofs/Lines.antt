@@ -10,6 +10,7 @@ use Rattle.run.specs.Carry.{carry}
 use Rattle.run.proofs.Cells.{regs_carry}
 use Rattle.ride.specs.Ride.{only_sets, rides_from, started}
 use Rattle.ride.specs.Need.{regs, left, ended, Standing, Glidable, Reached, Fits}
+use Rattle.std.specs.Prelude.{Some}
 use Rattle.ride.proofs.Obeying.{sources_sets}
 use Rattle.ride.proofs.Riding.{line_ends}
 
@@ -52,5 +53,5 @@ module _ {s image : List ℕ} {count : ℕ} (f : Fits s image count) where
       pub rest_so : left s image row mid p w ≡ rides_from s image 0 (started s) 0 w
       rest_so = r.same s limit_is ∙ begins_so
 
-      pub end_so : length w ≤ p → ended s image row mid ≡ rides_from s image 0 (started s) 0 w
-      end_so l = line_ends s image mid r.standing w p l ∙ rest_so
+      pub end_so : length w ≤ p → ended s image (Some row) mid ≡ rides_from s image 0 (started s) 0 w
+      end_so l = line_ends s image row mid w p l ∙ rest_so

@@ -2,7 +2,7 @@
 use Prim.Native.Nat.{ℕ, zero, suc, ◌+◌, ◌/◌, ◌%◌, ◌<◌, ◌≤◌}
 use native.Mathlib.Omega.{arith}
 use native.Mathlib.Decide.{ℕ_discrete}
-use mathlib.Core.Path.{◌≡◌, sym, ap, ◌∙◌, subst}
+use mathlib.Core.Path.{◌≡◌, refl, sym, ap, ◌∙◌, subst}
 use mathlib.Core.Bool.{Bool, true, false}
 use mathlib.Core.Logic.{◌⊎◌, inl, inr}
 use mathlib.Core.List.{List, [], ◌∷◌, ◌++◌}
@@ -13,6 +13,7 @@ use Rattle.ground.proofs.Tests.{lt_or_le}
 use Rattle.card.specs.Table.{Cmd, move, put}
 use Rattle.card.specs.Run.{Bank}
 use Rattle.card.specs.Decode.{cmd_at, cmds_at}
+use Rattle.card.specs.declared.Order.{Order}
 use Rattle.card.specs.declared.Order.TheVariants.{Move, Put, Stop}
 use Rattle.card.proofs.Laws.{cmds_step}
 use Rattle.run.specs.Carry.{carry}
@@ -34,13 +35,12 @@ module _ (s : List ℕ) (i p : ℕ) (old cur : Bank) where
   unfolding carry
   sets_put t e = sym (ap rest (cmds_step s i (Put t) e))
 
-  pub sets_move : (t f : ℕ) → cmd_at s i ≡ Move t f → cur ≡ carry (only_sets (cmds_at s i)) p old cur
+  -- another command, or none
+  pub sets_end : (o : Order) → o ≡ cmd_at s i → ((t : ℕ) → o ≡ Put t → ⊥) → cur ≡ carry (only_sets (cmds_at s i)) p old cur
   unfolding carry
-  sets_move t f e = sym (ap rest (cmds_step s i (Move t f) e))
-
-  pub sets_stop : cmd_at s i ≡ Stop → cur ≡ carry (only_sets (cmds_at s i)) p old cur
-  unfolding carry
-  sets_stop e = sym (ap rest (cmds_step s i Stop e))
+  sets_end (Put t) e n = absurd (n t refl)
+  sets_end (Move t f) e n = sym (ap rest (cmds_step s i (Move t f) (sym e)))
+  sets_end Stop e n = sym (ap rest (cmds_step s i Stop (sym e)))
 
 -- ---- an entry that is not of kind 0
 

@@ -6,11 +6,12 @@ use mathlib.Core.Path.{◌≡◌, refl, sym, ap, ap₂, ◌∙◌}
 use mathlib.Core.Bool.{Bool, true, false}
 use mathlib.Core.List.{List}
 use mathlib.Core.Logic.{◌⊎◌, inl, inr}
-use lib.ListN.{length, get_or, set, take, drop, length-take, length-drop, drop_of_length-le}
+use Rattle.std.specs.Prelude.{Some}
+use lib.ListN.{length, get_or, set, take, drop, drop_of_length-le}
 use lib.Seq.{get_or-take, get_or-drop, drop-cons}
 use lib.IntN.{pos}
 use lib.Dec.{leb}
-use borrow.Author.Tests.{le-leb, lt-leb, eq-eqb, ne_eqb}
+use borrow.Author.Tests.{le-leb, lt-leb}
 use Rattle.ground.specs.Pick.{pick}
 use Rattle.ground.proofs.Tests.{lt_or_le}
 use Rattle.card.specs.Table.{Cmd}
@@ -18,8 +19,8 @@ use Rattle.card.specs.Run.{Bank, Told, refused}
 use Rattle.run.specs.Carry.{carry}
 use Rattle.run.proofs.Cells.{regs_set_low, regs_set_high, regs_carry}
 use Rattle.image.specs.Image.{next_of, kind_of, cell_of}
-use Rattle.ride.specs.Ride.{orders, listless, astray, end_at, taking, rides_from}
-use Rattle.ride.specs.Need.{Obeyed, regs, left, ended, row_of, Standing, Reached, Hopped, stops, stays, hops}
+use Rattle.ride.specs.Ride.{orders, listless, astray, taking, rides_from}
+use Rattle.ride.specs.Need.{Obeyed, regs, left, ended, row_of, Standing, Reached, Hopped}
 use Rattle.ride.proofs.Ordered.{none_listed, none_ordered, one_ordered}
 use Rattle.ride.proofs.Obeying.{ordered_low}
 
@@ -40,23 +41,19 @@ module _ (s : List ℕ) (e : ℕ) where
 
 -- ---- rows
 
+-- a byte's column: what is left of the image from the byte's entry in the first row on
+abbrev pub column : (image : List ℕ) (b : ℕ) → List ℕ
+column image b = take (length image - b) (drop b image)
+
 module _ {image : List ℕ} {limit row : ℕ} (st : Standing image limit row) where
   pub in_image : (b : ℕ) → b < 256 → row + b < length image
   in_image b h = omega (arith, st.room, st.rows, st.begins, st.inside)
 
-  -- the same by a byte's column: what is left of the image from the byte's entry in the first row on
-  module _ (b : ℕ) (h : b < 256) where
-    abbrev column : List ℕ
-    column = take (length image - b) (drop b image)
-
-    pub in_column : row < length column
-    in_column = let i = in_image b h in simp (length-take, length-drop) (omega arith)
-
-    pub column_at : get_or column row 0 ≡ get_or image (row + b) 0
-    column_at =
-        let i = in_image b h in
-        get_or-take (length image - b) (drop b image) row 0 (omega arith) ∙ get_or-drop b image row 0
-        ∙ ap (λ (n : ℕ). get_or image n 0) (let n : b + row ≡ row + b = omega arith in n)
+  pub column_at : (b : ℕ) → b < 256 → get_or (column image b) row 0 ≡ get_or image (row + b) 0
+  column_at b h =
+      let i = in_image b h in
+      get_or-take (length image - b) (drop b image) row 0 (omega arith) ∙ get_or-drop b image row 0
+      ∙ ap (λ (n : ℕ). get_or image n 0) (let n : b + row ≡ row + b = omega arith in n)
 
   -- the next row, where it changed and where it was kept
   abbrev pub Went : (e there : ℕ) → Type 0
@@ -157,21 +154,9 @@ module _ (s image w : List ℕ) (bank : Bank) {limit row i b : ℕ} (e : ℕ) (c
 
 -- ---- the end of a line
 
-pub ended_astray : (s image : List ℕ) (row : ℕ) (bank : Bank) → row ≡ 32768 → refused 13 ≡ ended s image row bank
-unfolding pick
-ended_astray s image row bank h =
-    sym (ap (λ (t : Bool). pick t (refused 13) (end_at s (regs bank) (get_or image (256 * get_or s 4 0 + row / 256) 0))) (eq-eqb row 32768 h))
-
-module _ (s image : List ℕ) (bank : Bank) {limit row : ℕ} (st : Standing image limit row) where
-  pub ended_here : end_at s (regs bank) (get_or image (256 * get_or s 4 0 + row / 256) 0) ≡ ended s image row bank
-  unfolding pick
-  ended_here =
-      sym (ap (λ (t : Bool). pick t (refused 13) (end_at s (regs bank) (get_or image (256 * get_or s 4 0 + row / 256) 0)))
-      (ne_eqb row 32768 (λ z. omega (arith, st.small))))
-
-  pub line_ends : (w : List ℕ) (i : ℕ) → length w ≤ i → ended s image row bank ≡ left s image row bank i w
-  unfolding rides_from
-  line_ends w i l = sym ended_here ∙ sym (ap (rides_from s image (row / 256) (regs bank) i) (drop_of_length-le w l))
+pub line_ends : (s image : List ℕ) (row : ℕ) (bank : Bank) (w : List ℕ) (i : ℕ) → length w ≤ i → ended s image (Some row) bank ≡ left s image row bank i w
+unfolding rides_from
+line_ends s image row bank w i l = sym (ap (rides_from s image (row / 256) (regs bank) i) (drop_of_length-le w l))
 
 -- ---- as far as a line glides
 
@@ -199,16 +184,15 @@ module _ {image w : List ℕ} {limit p first : ℕ} {old : Bank} where
         same = λ s c. byte_one s image w bank e c r.standing l hb he ht inside k h ∙ r.same s c;
       }
 
-      pub reached_hop : {there : ℕ} {new : Bank} → Hopped e limit row (i + 1) bank there new → (there ≡ 32768 → ⊥) → Reached image w limit p first old (i + 1) there new
-      reached_hop stops n = absurd (n refl)
-      reached_hop (stays h) n = reached_stay h
-      reached_hop (hops k l) n = reached_one refl l k refl
+    hopped : {there : ℕ} {new : Bank} (e : ℕ) {b : ℕ} → i < length w → b ≡ get_or w i 0 → e ≡ get_or image (row + b) 0
+        → Hopped e limit row (i + 1) bank new (Some there) → Reached image w limit p first old (i + 1) there new
+    hopped e l hb he (inl h) = rw (h.1, h.2) (reached_stay e l hb he h.0)
+    hopped e l hb he (inr h) = reached_one e l hb he h.2 (rw h.2 h.1) h.0 h.3
 
--- an entry that was left alone stored nothing
-pub left_alone : {e limit row place there : ℕ} {old new : Bank} → row < 32768 → Hopped e limit row place old there new → there ≡ 32768 → new ≡ old
-left_alone small stops h = refl
-left_alone small (stays e) h = refl
-left_alone {e} small (hops k l) h = absurd (omega arith)
+    -- the entry of a byte's column taken
+    pub reached_hop : {b there : ℕ} {new : Bank} → i < length w → b ≡ get_or w i 0 → b < 256
+        → Hopped (get_or (column image b) row 0) limit row (i + 1) bank new (Some there) → Reached image w limit p first old (i + 1) there new
+    reached_hop {b} l hb k h = hopped (get_or (column image b) row 0) l hb (column_at r.standing b k) h
 
 -- ---- as far as a line rides over one table's image
 
@@ -222,8 +206,8 @@ module _ {s image w : List ℕ} {limit p first : ℕ} {old : Bank} (c : limit �
   going_none st h = record { standing = st; within = h; same = refl }
 
   module _ {i row : ℕ} {bank : Bank} (g : Going s image w limit p first old i row bank) where
-    pub going_ends : length w ≤ i → ended s image row bank ≡ left s image first old p w
-    going_ends l = line_ends s image bank g.standing w i l ∙ g.same
+    pub going_ends : length w ≤ i → ended s image (Some row) bank ≡ left s image first old p w
+    going_ends l = line_ends s image row bank w i l ∙ g.same
 
     module _ {b : ℕ} (e : ℕ) (l : i < length w) (hb : b ≡ get_or w i 0) (he : e ≡ get_or image (row + b) 0) where
       pub going_stay : e ≡ row + 64 → Going s image w limit p first old (i + 1) row bank
@@ -233,8 +217,8 @@ module _ {s image w : List ℕ} {limit p first : ℕ} {old : Bank} (c : limit �
         same = byte_stay s image w bank e c g.standing l hb he h ∙ g.same;
       }
 
-      pub going_astray : limit ≤ row_of e → (there : ℕ) (new : Bank) → there ≡ 32768 → ended s image there new ≡ left s image first old p w
-      going_astray h there new z = sym (ended_astray s image there new z) ∙ byte_astray s image w bank e c g.standing l hb he h ∙ g.same
+      pub going_astray : limit ≤ row_of e → refused 13 ≡ left s image first old p w
+      going_astray h = byte_astray s image w bank e c g.standing l hb he h ∙ g.same
 
       module _ {there : ℕ} (t : (there ≡ row_of e) × (there < limit)) where
         pub going_one : e < 1073741824 → {new : Bank} → new ≡ set bank (e % 128) (pos (i + 1)) → Going s image w limit p first old (i + 1) there new
@@ -252,5 +236,5 @@ module _ {s image w : List ℕ} {limit p first : ℕ} {old : Bank} (c : limit �
             same = byte_obeyed s image w bank e c g.standing l hb he t.0 t.1 o f ∙ g.same;
           }
 
-          pub going_missed : r ≡ false → (at : ℕ) → at ≡ 32768 → ended s image at new ≡ left s image first old p w
-          going_missed f at z = sym (ended_astray s image at new z) ∙ byte_missed s image w bank e c g.standing l hb he t.0 t.1 o f ∙ g.same
+          pub going_missed : r ≡ false → refused 13 ≡ left s image first old p w
+          going_missed f = byte_missed s image w bank e c g.standing l hb he t.0 t.1 o f ∙ g.same

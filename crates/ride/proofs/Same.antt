@@ -30,7 +30,7 @@ use Rattle.image.specs.Image.{next_of, spot_at, entry_at, Imaged, Mounts, unfit,
 use Rattle.ride.specs.Ride.{orders, end_at, taking, rides_from, started, ridden}
 use Rattle.ride.proofs.Riding.{counted}
 use Rattle.ride.proofs.Telling.{end_of}
-use Rattle.ride.proofs.Answering.{ridden_long, ridden_on}
+use Rattle.ride.proofs.Answering.{fit_room, ridden_long, ridden_on}
 use Rattle.image.proofs.Mounting.{taken_short}
 use Rattle.ride.proofs.Mounted.{SaysRow, sets_whole, spot_says}
 
@@ -128,10 +128,10 @@ module _ {s old image : List ℕ} (j : Judged s 0) (m : Imaged s old image) wher
 fitted : {s old image : List ℕ} → Judged s 0 → 257 * get_or s 4 0 ≤ length old → Imaged s old image → (w : List ℕ) → Bytes w
     → (length w ≤ line_max) ⊎ (line_max < length w) → Runs s w (ridden s image w)
 fitted {s} {old} {image} j r m w b (inl l) =
-    subst (Runs s w) (sym (same_line j m w (b, l)) ∙ ridden_on s image w refl (λ z. omega (arith, table_long s, (is_formed j).0.some)) (omega (arith, m.long)) l)
+    subst (Runs s w) (sym (same_line j m w (b, l)) ∙ ridden_on s image w (fit_room s image refl (λ z. omega (arith, table_long s, (is_formed j).0.some)) (omega (arith, m.long))) l)
     (fit j l (table_at s) (is_formed j).0 (is_formed j).1)
 fitted {s} {old} {image} j r m w b (inr l) =
-    subst (Runs s w) (ridden_long s image w refl (λ z. omega (arith, table_long s, (is_formed j).0.some)) (omega (arith, m.long)) l) (long j l)
+    subst (Runs s w) (ridden_long s image w (fit_room s image refl (λ z. omega (arith, table_long s, (is_formed j).0.some)) (omega (arith, m.long))) l) (long j l)
 
 short_or_long : (n : ℕ) → (n ≤ line_max) ⊎ (line_max < n)
 short_or_long n = ⊎_elim (λ (h : line_max < n). inr h) (λ (h : n ≤ line_max). inl h) (lt_or_le line_max n)

@@ -1,6 +1,5 @@
 -- What the inner functions of a ride are told and say. Assumes nothing: these are definitions.
-use Rattle.std.specs.Prelude.{◌≡◌, Bool, true, false, List, ◌⊎◌, ℕ, ◌+◌, ◌*◌, ◌/◌, ◌%◌, ◌<◌, ◌≤◌, length, get_or, set, take, drop, pos, eqb}
-use Rattle.ground.specs.Pick.{pick}
+use Rattle.std.specs.Prelude.{◌≡◌, Bool, true, false, List, ◌⊎◌, ℕ, ◌+◌, ◌*◌, ◌/◌, ◌%◌, ◌<◌, ◌≤◌, length, get_or, set, take, drop, pos, Option, Some, None, IfSome}
 use Rattle.card.specs.Run.{Bank, line_max, Told, refused}
 use Rattle.run.specs.Carry.{carry}
 use Rattle.image.specs.Image.{next_of}
@@ -21,9 +20,10 @@ regs bank = take 64 bank
 abbrev pub left : (s image : List ℕ) (row : ℕ) → Bank → (p : ℕ) → List ℕ → Told
 left s image row bank p w = rides_from s image (row / 256) (regs bank) p (drop p w)
 
--- what it tells where the line ended: of the row there, or of 32768 for an entry that led astray
-abbrev pub ended : (s image : List ℕ) (row : ℕ) → Bank → Told
-ended s image row bank = pick (eqb row 32768) (refused 13) (end_at s (regs bank) (get_or image (256 * get_or s 4 0 + row / 256) 0))
+-- what it tells where the line ended: of the row there, or of none for an entry that led astray
+abbrev pub ended : (s image : List ℕ) → Option ℕ → Bank → Told
+ended s image None bank = refused 13
+ended s image (Some row) bank = end_at s (regs bank) (get_or image (256 * get_or s 4 0 + row / 256) 0)
 
 -- a row of the image, below a limit
 pub record Standing (image : List ℕ) (limit row : ℕ) : Type 0 where
@@ -33,8 +33,8 @@ pub record Standing (image : List ℕ) (limit row : ℕ) : Type 0 where
   pub inside : row < limit
   pub small : row < 32768
 
-abbrev pub Ends : (image : List ℕ) (limit row : ℕ) → Type 0
-Ends image limit row = (row ≡ 32768) ⊎ Standing image limit row
+abbrev pub Ends : (image : List ℕ) (limit : ℕ) → Option ℕ → Type 0
+Ends image limit r = IfSome r (Standing image limit)
 
 -- a place of a line that is not too long, and a row there
 pub record Glidable (image : List ℕ) (limit : ℕ) (w : List ℕ) (p row : ℕ) : Type 0 where
@@ -53,10 +53,11 @@ abbrev pub row_of : ℕ → ℕ
 row_of e = next_of e * 256
 
 -- an entry left alone; one that stays without commands; one of kind 0 taken, by one store
-pub data Hopped (e limit row place : ℕ) (old : Bank) : ℕ → Bank → Type 0 where
-  stops : Hopped e limit row place old 32768 old
-  stays : e ≡ row + 64 → Hopped e limit row place old row old
-  hops : e < 1073741824 → row_of e < limit → Hopped e limit row place old (row_of e) (set old (e % 128) (pos place))
+abbrev pub Hopped : (e limit row place : ℕ) (old new : Bank) → Option ℕ → Type 0
+Hopped e limit row place old new None = new ≡ old
+Hopped e limit row place old new (Some there) =
+    ((e ≡ row + 64) × (there ≡ row) × (new ≡ old))
+    ⊎ ((e < 1073741824) × (row_of e < limit) × (there ≡ row_of e) × (new ≡ set old (e % 128) (pos place)))
 
 -- an image with room for the situations that a table counts
 pub record Fits (s image : List ℕ) (count : ℕ) : Type 0 where

@@ -4,9 +4,6 @@ ghost use Rattle.std.specs.Prelude.{◌≡◌, ◌≤◌, ◌<◌};
 ghost use Rattle.card.specs.Run.{line_max};
 ghost use Rattle.ride.specs.Need.{Glidable, Reached, Hopped};
 
-// A row that no situation has.
-pub const ASTRAY: usize = 32768;
-
 // The least entry that is not of kind 0.
 pub const LISTED: usize = 1073741824;
 
@@ -20,18 +17,23 @@ pub struct Reach {
     pub row: usize,
 }
 
-// Where two lines got to.
-#[derive(Clone, Copy)]
-pub struct Reaches {
-    pub first: Reach,
-    pub second: Reach,
-}
-
-// An entry of an image as an index.
-pub fn word(x: u32) -> usize
-    ensures { result ≡ x }
+// An entry taken if it glides: the next row. Else nothing is stored.
+fn hop(e: usize, limit: usize, row: usize, place: usize, bank: &mut [i16; 128]) -> Option<usize>
+    requires { (row < 32768) × (place ≤ line_max) }
+    ensures { Hopped e limit row place bank.old bank.new result }
 {
-    x as usize
+    if e == row + IDLE {
+        return Some(row);
+    }
+    if LISTED <= e {
+        return None;
+    }
+    let next = e / 256 % 128 * 256;
+    if limit <= next {
+        return None;
+    }
+    bank[e % 128] = ground::held(place);
+    Some(next)
 }
 
 // As far as a line's entries are of kind 0 and lead to a row below the limit. An entry that is the row's place and 64
@@ -49,68 +51,18 @@ pub fn glide(
     ensures { Reached image.now line.now limit from first bank.old result.place result.row bank.new }
 {
     let mut row = first;
-    let mut place = from;
-    while place < line.len() {
-        let b = ground::wide(line[place]);
-        let column = &image[b..];
-        let e = word(column[row]);
-        if e != row + IDLE {
-            if LISTED <= e {
-                return Reach { place, row };
-            }
-            let next = e / 256 % 128 * 256;
-            if limit <= next {
-                return Reach { place, row };
-            }
-            row = next;
-            let v = ground::held(place + 1);
-            bank[e % 128] = v;
-        }
-        place += 1;
+    for place in from..line.len() {
+        let column = &image[usize::from(line[place])..];
+        let e = column[row] as usize;
+        let Some(next) = hop(e, limit, row, place + 1, bank) else {
+            return Reach { place, row };
+        };
+        row = next;
     }
-    Reach { place, row }
-}
-
-// The lesser of two lengths.
-fn least(a: usize, b: usize) -> usize
-    ensures { (result ≤ a) × (result ≤ b) }
-{
-    if a < b {
-        return a;
+    Reach {
+        place: line.len(),
+        row,
     }
-    b
-}
-
-// An entry taken if it glides: the next row, or ASTRAY with nothing stored.
-fn hop(e: usize, limit: usize, row: usize, place: usize, bank: &mut [i16; 128]) -> usize
-    requires { (row < 32768) × (place ≤ line_max) }
-    ensures { Hopped e limit row place bank.old result bank.new }
-{
-    if e == row + IDLE {
-        return row;
-    }
-    if LISTED <= e {
-        return ASTRAY;
-    }
-    let next = e / 256 % 128 * 256;
-    if limit <= next {
-        return ASTRAY;
-    }
-    let v = ground::held(place);
-    bank[e % 128] = v;
-    next
-}
-
-// Where two lines got to, of their places and rows.
-fn both_at(place: usize, row: usize, place2: usize, row2: usize) -> Reaches
-    ensures { (result.first ≡ record { place = place; row = row }) × (result.second ≡ record { place = place2; row = row2 }) }
-{
-    let first = Reach { place, row };
-    let second = Reach {
-        place: place2,
-        row: row2,
-    };
-    Reaches { first, second }
 }
 
 // Two lines in step from their beginning on, until one of them ends or has an entry that does not glide. Both entries
@@ -122,32 +74,44 @@ pub fn glide_two(
     other: &[u8],
     bank: &mut [i16; 128],
     beside: &mut [i16; 128],
-) -> Reaches
+) -> (Reach, Reach)
     requires { Glidable image.now limit line.now 0 0 × Glidable image.now limit other.now 0 0 }
-    ensures { Reached image.now line.now limit 0 0 bank.old result.first.place result.first.row bank.new × Reached image.now other.now limit 0 0 beside.old result.second.place result.second.row beside.new }
+    ensures { Reached image.now line.now limit 0 0 bank.old result.0.place result.0.row bank.new × Reached image.now other.now limit 0 0 beside.old result.1.place result.1.row beside.new }
 {
-    let until = least(line.len(), other.len());
+    let until = line.len().min(other.len());
     let mut row: usize = 0;
     let mut row2: usize = 0;
-    let mut i: usize = 0;
-    while i < until {
-        let b = ground::wide(line[i]);
-        let column = &image[b..];
-        let e = word(column[row]);
-        let c = ground::wide(other[i]);
-        let column2 = &image[c..];
-        let f = word(column2[row2]);
-        let next = hop(e, limit, row, i + 1, bank);
-        if next == ASTRAY {
-            return both_at(i, row, i, row2);
-        }
+    for i in 0..until {
+        let column = &image[usize::from(line[i])..];
+        let e = column[row] as usize;
+        let column2 = &image[usize::from(other[i])..];
+        let f = column2[row2] as usize;
+        let Some(next) = hop(e, limit, row, i + 1, bank) else {
+            return (
+                Reach { place: i, row },
+                Reach {
+                    place: i,
+                    row: row2,
+                },
+            );
+        };
         row = next;
-        let next2 = hop(f, limit, row2, i + 1, beside);
-        if next2 == ASTRAY {
-            return both_at(i + 1, row, i, row2);
-        }
+        let Some(next2) = hop(f, limit, row2, i + 1, beside) else {
+            return (
+                Reach { place: i + 1, row },
+                Reach {
+                    place: i,
+                    row: row2,
+                },
+            );
+        };
         row2 = next2;
-        i += 1;
     }
-    both_at(i, row, i, row2)
+    (
+        Reach { place: until, row },
+        Reach {
+            place: until,
+            row: row2,
+        },
+    )
 }

@@ -1,34 +1,46 @@
 -- A list of commands read at a place and carried out, and the row of a byte. Assumes nothing.
 use Prim.Native.Nat.{ℕ, ◌+◌, ◌<◌, ◌≤◌}
 use native.Mathlib.Omega.{arith}
-use mathlib.Core.Path.{◌≡◌, refl, sym, ap, ◌∙◌, subst}
+use mathlib.Core.Path.{◌≡◌, refl, sym, ap}
 use mathlib.Core.Logic.{◌⊎◌, inl, inr}
 use mathlib.Core.List.{List, [], ◌∷◌}
-use lib.ListN.{length, set}
+use lib.ListN.{length, set, length-set}
 use lib.IntN.{ℤ, pos, negsuc}
-use Rattle.card.specs.Table.{Cmd, move, put, Row}
-use Rattle.card.specs.Run.{Bank, reg, Out, ok, stuck, moved, apply, no_row, row_for}
-use Rattle.card.specs.Decode.{cmd_at, cmds_at, after_at, row_at, rows_at}
+use Rattle.card.specs.Table.{Cmd, move, put}
+use Rattle.card.specs.Run.{Bank, reg, Out, ok, stuck, moved, apply}
+use Rattle.card.specs.Decode.{cmd_at, before, cmds_at, after_at, row_at, row_then, rows_at}
+use Rattle.std.proofs.lemmas.Bool.Decides.{nat_tests}
+use mir.ValLaws.{to_z-of_z}
+use Rattle.card.specs.declared.Order.{Order}
 use Rattle.card.specs.declared.Order.TheVariants.{Move, Put, Stop}
 use Rattle.card.specs.declared.RowItem.TheVariants.{Leads, Ends}
-use Rattle.card.proofs.Laws.{cmds_step, at_end}
-use Rattle.card.proofs.Rows.{row_ends, row_here, row_later}
-use Rattle.run.specs.Carry.{carry, LeadsTo}
+use Rattle.card.proofs.Laws.{cmds_step, at_end, move_facts, put_facts}
+use Rattle.card.proofs.Rows.{row_whole, rows_step}
+use Rattle.card.specs.declared.RowItem.{RowItem}
+use Rattle.run.specs.Carry.{carry}
 
 -- ---- one command
 
-module _ (s : List ℕ) (i p : ℕ) (old cur : Bank) where
-  pub carry_move : (t f : ℕ) → cmd_at s i ≡ Move t f → carry (cmds_at s (i + 3)) p old (set cur t (reg old f)) ≡ carry (cmds_at s i) p old cur
-  unfolding carry
-  carry_move t f e = sym (ap (λ (l : List Cmd). carry l p old cur) (cmds_step s i (Move t f) e))
+-- a command's registers are below 64, and it stands whole
+abbrev pub Whole : List ℕ → ℕ → Order → Type 0
+Whole s at (Move t f) = (t < 64) × (f < 64) × (at + 3 ≤ length s)
+Whole s at (Put t) = (t < 64) × (at + 2 ≤ length s)
+Whole s at Stop = Unit {0}
 
-  pub carry_put : (t : ℕ) → cmd_at s i ≡ Put t → carry (cmds_at s (i + 2)) p old (set cur t (pos p)) ≡ carry (cmds_at s i) p old cur
-  unfolding carry
-  carry_put t e = sym (ap (λ (l : List Cmd). carry l p old cur) (cmds_step s i (Put t) e))
+whole_of : (s : List ℕ) (at : ℕ) (o : Order) → cmd_at s at ≡ o → Whole s at o
+whole_of s at (Move t f) e = move_facts s at t f e
+whole_of s at (Put t) e = put_facts s at t e
+whole_of s at Stop e = tt
 
-  pub carry_stop : cmd_at s i ≡ Stop → cur ≡ carry (cmds_at s i) p old cur
-  unfolding carry
-  carry_stop e = sym (ap (λ (l : List Cmd). carry l p old cur) (cmds_step s i Stop e))
+pub cmd_whole : (s : List ℕ) (at : ℕ) → Whole s at (cmd_at s at)
+cmd_whole s at = whole_of s at (cmd_at s at) refl
+
+-- the list at a place is the command there before those that follow
+pub cmds_here : (s : List ℕ) (at : ℕ) → cmds_at s at ≡ before (cmd_at s at) (λ (d : ℕ). cmds_at s (at + d))
+cmds_here s at = cmds_step s at (cmd_at s at) refl
+
+-- what a function that reads commands needs of them
+pub ruleset commands = (cmd_whole, cmds_here, to_z-of_z, length-set)
 
 pub no_cmds : (s : List ℕ) (at : ℕ) → cmd_at s at ≡ Stop → cmds_at s at ≡ []
 no_cmds s at e = cmds_step s at Stop e
@@ -51,17 +63,25 @@ carried (move t f ∷ l) p old cur = moved_either (reg old f) _ _ (carried l p o
 
 -- ---- the row of a byte
 
-module _ (s : List ℕ) (at i b : ℕ) (inv : row_for (rows_at s i) b ≡ row_for (rows_at s at) b) where
-  pub lead_none : row_at s i ≡ Ends → LeadsTo s (row_for (rows_at s at) b) 0 (length s)
-  lead_none e =
-      let r : no_row ≡ row_for (rows_at s at) b = row_ends s i b e ∙ inv in
-      subst (λ (x : Row). LeadsTo s x 0 (length s)) r
-      (record { next = refl; cmds = sym (no_cmds s (length s) (at_end s (length s) (omega arith))) })
+-- a row that is there stands whole
+abbrev pub WholeRow : List ℕ → ℕ → RowItem → Type 0
+WholeRow s at (Leads lo hi next) = at + 4 ≤ length s
+WholeRow s at Ends = Unit {0}
 
-  module _ (lo hi next : ℕ) (e : row_at s i ≡ Leads lo hi next) where
-    pub lead_here : b ≤ hi → LeadsTo s (row_for (rows_at s at) b) next (i + 4)
-    lead_here h =
-        subst (λ (x : Row). LeadsTo s x next (i + 4)) (row_here s i b lo hi next e h ∙ inv) (record { next = refl; cmds = refl })
+row_whole_of : (s : List ℕ) (at : ℕ) (x : RowItem) → row_at s at ≡ x → WholeRow s at x
+row_whole_of s at (Leads lo hi next) e = row_whole s at lo hi next e
+row_whole_of s at Ends e = tt
 
-    pub lead_later : hi < b → (j : ℕ) → j ≡ after_at s (i + 4) → row_for (rows_at s j) b ≡ row_for (rows_at s at) b
-    lead_later h j k = ap (λ (n : ℕ). row_for (rows_at s n) b) k ∙ row_later s i b lo hi next e h ∙ inv
+pub row_whole_here : (s : List ℕ) (at : ℕ) → WholeRow s at (row_at s at)
+row_whole_here s at = row_whole_of s at (row_at s at) refl
+
+-- the rows at a place are the row there before those that follow
+pub rows_here : (s : List ℕ) (at : ℕ) → rows_at s at ≡ row_then (row_at s at) (cmds_at s (at + 4)) (rows_at s (after_at s (at + 4)))
+rows_here s at = rows_step s at (row_at s at) refl
+
+-- none stand at the end
+pub cmds_past : (s : List ℕ) → cmds_at s (length s) ≡ []
+cmds_past s = no_cmds s (length s) (at_end s (length s) (omega arith))
+
+-- what a function that reads rows needs of them
+pub ruleset rows = (row_whole_here, rows_here, cmds_past, nat_tests)

@@ -47,6 +47,9 @@ carry_kept (move t f ∷ l) h p old cur =
     ∙ carry_kept l h.1 p old (set cur t (reg old f))
 carry_kept (put t ∷ l) h p old cur = carry_kept l h p old (set cur t (pos p))
 
+pub carry_registers : (s : List ℕ) (at p : ℕ) (old cur : Bank) → carry (cmds_at s at) p (take 64 old) cur ≡ carry (cmds_at s at) p old cur
+carry_registers s at p old cur = carry_kept (cmds_at s at) (sources_at s at) p old cur
+
 -- ---- the registers after a store, and after a list
 
 module _ (b : Bank) (t : ℕ) (x : ℤ) where

@@ -6,21 +6,15 @@ use mathlib.Core.Path.{◌≡◌, refl, sym, ap, ap₂, ◌∙◌, subst}
 use mathlib.Core.Logic.{◌⊎◌, inl, inr}
 use mathlib.Core.Bool.{Bool}
 use mathlib.Core.List.{List, [], ◌∷◌, map}
-use lib.ListN.{length, get_or, set, take, drop, replicate, length-take, length-drop, length-set, get_or-replicate}
-use lib.Seq.{get_or-take, get_or-drop, get_or-set_same, get_or-set_other, ext_get_or}
+use lib.ListN.{length, get_or, take, drop, length-take, length-drop}
+use lib.Seq.{get_or-take, get_or-drop, ext_get_or}
 use lib.IntN.{ℤ, pos}
+use denote.Param.Members.{Mut, Called}
+use Rattle.std.specs.Array.{IsFromFnResultFrom}
 use borrow.Author.Tests.{eq-eqb, ne_eqb, lt-ltb, le-ltb}
 use Rattle.ground.specs.Pick.{pick}
 use Rattle.card.specs.Run.{Bank, reg, absent, place_at}
 use Rattle.run.specs.Carry.{field_at, Eight}
-
-field_none : (bank : Bank) (f : ℕ) → 64 ≤ f → absent ≡ field_at bank f
-unfolding pick
-field_none bank f l = sym (ap (λ (b : Bool). pick b (reg bank f) absent) (le-ltb f 64 l))
-
-field_held : (bank : Bank) (f : ℕ) → f < 64 → reg bank f ≡ field_at bank f
-unfolding pick
-field_held bank f l = sym (ap (λ (b : Bool). pick b (reg bank f) absent) (lt-ltb f 64 l))
 
 map_at : (f : ℕ → ℤ) (l : List ℕ) (j : ℕ) → j < length l → get_or (map f l) j (pos 0) ≡ f (get_or l j 0)
 map_at f [] j h = absurd (omega arith)
@@ -31,58 +25,23 @@ pub map_length : (f : ℕ → ℤ) (l : List ℕ) → length (map f l) ≡ lengt
 map_length f [] = refl
 map_length f (x ∷ l) = ap suc (map_length f l)
 
--- the first t places are told, the others absent yet
-pub record Filled (s : List ℕ) (at : ℕ) (bank : Bank) (out : List ℤ) (t : ℕ) : Type 0 where
-  pub most : t ≤ 8
-  pub long : length out ≡ 8
-  pub told : (j : ℕ) → j < t → get_or out j (pos 0) ≡ field_at bank (get_or s (at + j) 0)
-  pub rest : (j : ℕ) → t ≤ j → j < 8 → get_or out j (pos 0) ≡ absent
+-- what calls of one function at 0, 1, .. gave, if a call leaves it as it was
+pub each_from_fn : {F : Type 0} {g : Mut F (ℕ × Unit {0}) ℤ} {f : F} (h : ℕ → ℤ) → ((t : ℕ) (y : ℤ) (q : F) → Called g f (t, tt) y q → (q ≡ f) × (y ≡ h t))
+    → (ys : List ℤ) (i n : ℕ) → IsFromFnResultFrom g f ys i n → (t : ℕ) → i ≤ t → t < i + n → get_or ys t (pos 0) ≡ h t
+each_from_fn h call ys i zero w t a b = absurd (omega arith)
+each_from_fn {F} {g} {f} h call ys i (suc n) (q, y, e, k, more) t a b = by (call i y q k) (ℕ_discrete t i) (λ z. each_from_fn h call ys (i + 1) n z t)
+  where
+    by : (q ≡ f) × (y ≡ h i) → Dec (t ≡ i) → (IsFromFnResultFrom g f ys (i + 1) n → i + 1 ≤ t → t < i + 1 + n → get_or ys t (pos 0) ≡ h t) → get_or ys t (pos 0) ≡ h t
+    by c (yes d) m = ap (λ (j : ℕ). get_or ys j (pos 0)) d ∙ e.1 (pos 0) ∙ c.1 ∙ ap h (sym d)
+    by c (no d) m = m (subst (λ (x : F). IsFromFnResultFrom g x ys (i + 1) n) c.0 more) (omega arith) (omega arith)
 
-pub filled_none : (s : List ℕ) (at : ℕ) (bank : Bank) → Filled s at bank (replicate 8 absent) 0
-filled_none s at bank = record {
-  most = omega arith;
-  long = refl;
-  told = λ j h. absurd (omega arith);
-  rest = λ j _ h. get_or-replicate 8 j absent (pos 0) h;
-}
-
-module _ {s : List ℕ} {at : ℕ} {bank : Bank} {out : List ℤ} {t : ℕ} (f : Filled s at bank out t) (l : t < 8) where
-  pub filled_held : (x : ℕ) → x ≡ get_or s (at + t) 0 → x < 64 → Filled s at bank (set out t (reg bank x)) (t + 1)
-  filled_held x k h = record {
-    most = omega arith;
-    long = length-set out t (reg bank x) ∙ f.long;
-    told = λ j i. by j i (ℕ_discrete j t);
-    rest = λ j i m. get_or-set_other out t j (reg bank x) (pos 0) (λ d. omega arith) ∙ f.rest j (omega arith) m;
-  }
-    where
-      by : (j : ℕ) → j < t + 1 → Dec (j ≡ t) → get_or (set out t (reg bank x)) j (pos 0) ≡ field_at bank (get_or s (at + j) 0)
-      by j i (yes d) =
-          ap (λ (n : ℕ). get_or (set out t (reg bank x)) n (pos 0)) d
-          ∙ get_or-set_same out t (reg bank x) (pos 0) (omega (arith, f.long))
-          ∙ field_held bank x h ∙ ap (field_at bank) k ∙ ap (λ (n : ℕ). field_at bank (get_or s (at + n) 0)) (sym d)
-      by j i (no d) = get_or-set_other out t j (reg bank x) (pos 0) d ∙ f.told j (omega arith)
-
-  pub filled_absent : (x : ℕ) → x ≡ get_or s (at + t) 0 → 64 ≤ x → Filled s at bank out (t + 1)
-  filled_absent x k h = record {
-    most = omega arith;
-    long = f.long;
-    told = λ j i. by j i (ℕ_discrete j t);
-    rest = λ j i m. f.rest j (omega arith) m;
-  }
-    where
-      by : (j : ℕ) → j < t + 1 → Dec (j ≡ t) → get_or out j (pos 0) ≡ field_at bank (get_or s (at + j) 0)
-      by j i (yes d) =
-          f.rest j (omega arith) (omega arith) ∙ field_none bank (get_or s (at + t) 0) (omega arith)
-          ∙ ap (λ (n : ℕ). field_at bank (get_or s (at + n) 0)) (sym d)
-      by j i (no d) = f.told j (omega arith)
-
-pub filled_all : {s : List ℕ} {at : ℕ} {bank : Bank} {out : List ℤ} {t : ℕ} → at + 8 ≤ length s → Filled s at bank out t → 8 ≤ t
-    → out ≡ map (field_at bank) (take 8 (drop at s))
-filled_all {s} {at} {bank} {out} {t} e f h =
-    ext_get_or (pos 0) out (map (field_at bank) (take 8 (drop at s))) (f.long ∙ sym (map_length (field_at bank) (take 8 (drop at s)) ∙ eight))
+pub told_all : (s : List ℕ) (at : ℕ) (bank : Bank) (out : List ℤ) → at + 8 ≤ length s → length out ≡ 8
+    → ((t : ℕ) → 0 ≤ t → t < 8 → get_or out t (pos 0) ≡ field_at bank (get_or s (at + t) 0)) → out ≡ map (field_at bank) (take 8 (drop at s))
+told_all s at bank out room long told =
+    ext_get_or (pos 0) out (map (field_at bank) (take 8 (drop at s))) (long ∙ sym (map_length (field_at bank) (take 8 (drop at s)) ∙ eight))
     (λ j i.
-    let k : j < 8 = omega (arith, f.long) in
-    f.told j (omega arith)
+    let k : j < 8 = omega arith in
+    told j (omega arith) k
     ∙ ap (field_at bank) (sym (get_or-take 8 (drop at s) j 0 k ∙ get_or-drop at s j 0))
     ∙ sym (map_at (field_at bank) (take 8 (drop at s)) j (omega (arith, eight))))
   where

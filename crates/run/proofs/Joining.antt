@@ -1,4 +1,5 @@
 -- A run, from the judgement and the line's length. Assumes nothing.
+use native.Mathlib.Omega.{arith}
 use Prim.Native.Nat.{ℕ, ◌<◌, ◌≤◌}
 use mathlib.Core.Path.{◌≡◌, sym, subst}
 use mathlib.Core.Logic.{inl}
@@ -10,29 +11,30 @@ use Rattle.card.specs.Decode.{table_at}
 use Rattle.loader.specs.Judges.{Judges}
 use Rattle.loader.proofs.Judging.{not_stuck, is_formed, is_ready}
 use Rattle.run.specs.Carry.{Rides}
+use Rattle.answers.specs.Refusals.{code_of}
+use Rattle.answers.specs.declared.Refusal.{Refusal}
+use Rattle.answers.proofs.Refusals.{code_above_ok}
+use Rattle.card.specs.Judged.{Judged}
 use Rattle.run.specs.Runs.{Runs, unfit, long, fit}
 
-module _ {s p : List ℕ} {c : ℕ} (j : Judges s c p) where
-  pub runs_unfit : {w : List ℕ} {t : Told} → t ≡ refused c → (c ≡ 0 → ⊥) → Runs s w t
-  runs_unfit {w} e n = subst (Runs s w) (sym e) (unfit c j.judged n)
+-- a table that is not taken
+pub runs_unfit : {s w : List ℕ} (e : Refusal) → Judged s (code_of e) → Runs s w (refused (code_of e))
+runs_unfit e j = let h = code_above_ok e in unfit (code_of e) j (λ z. omega arith)
 
-  module _ (z : c ≡ 0) where
-    is_taken : Judges s 0 p
-    is_taken = subst (λ (k : ℕ). Judges s k p) z j
+module _ {s p : List ℕ} (j : Judges s 0 p) where
+  pub runs_long : {w : List ℕ} → line_max < length w → Runs s w (refused 15)
+  runs_long l = long j.judged l
 
-    pub runs_long : {w : List ℕ} {t : Told} → t ≡ refused 15 → line_max < length w → Runs s w t
-    runs_long {w} e l = subst (Runs s w) (sym e) (long is_taken.judged l)
+  pub rides : {w : List ℕ} → ((i : ℕ) → get_or w i 0 < 256) → length w ≤ line_max → Rides s p w
+  rides {w} b l = record {
+    ready = is_ready j;
+    short = l;
+    found = λ e.
+        let f = is_formed j.judged in
+        not_stuck j.judged (table_at s) f.0 f.1 w (all_bytes w b, l) (inl e);
+  }
 
-    pub rides : {w : List ℕ} → ((i : ℕ) → get_or w i 0 < 256) → length w ≤ line_max → Rides s p w
-    rides {w} b l = record {
-      ready = is_ready is_taken;
-      short = l;
-      found = λ e.
-          let f = is_formed is_taken.judged in
-          not_stuck is_taken.judged (table_at s) f.0 f.1 w (all_bytes w b, l) (inl e);
-    }
-
-    pub runs_fit : {w : List ℕ} {t : Told} → t ≡ tells (table_at s) w → length w ≤ line_max → Runs s w t
-    runs_fit {w} e l =
-        let f = is_formed is_taken.judged in
-        subst (Runs s w) (sym e) (fit is_taken.judged l (table_at s) f.0 f.1)
+  pub runs_fit : {w : List ℕ} {t : Told} → t ≡ tells (table_at s) w → length w ≤ line_max → Runs s w t
+  runs_fit {w} e l =
+      let f = is_formed j.judged in
+      subst (Runs s w) (sym e) (fit j.judged l (table_at s) f.0 f.1)

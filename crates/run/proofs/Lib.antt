@@ -1,6 +1,5 @@
 pub mod Carrying
 pub mod Cells
-pub mod Pairing
 pub mod Filling
 pub mod Riding
 pub mod Telling

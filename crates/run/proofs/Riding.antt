@@ -41,7 +41,6 @@ byte_on T q bank i w h =
 
 -- after i bytes: the situation, the bank, and what is left leads where the whole line does
 pub record Riding (s w : List ℕ) (q : ℕ) (bank : Bank) (i : ℕ) : Type 0 where
-  pub within : i ≤ length w
   pub inside : q < get_or s 4 0
   pub way : run (table_at s) (at q bank) i (drop i w) ≡ over (table_at s) w
 
@@ -49,7 +48,6 @@ module _ {s places w : List ℕ} (r : Rides s places w) where
   pub riding_none : (bank : Bank) → bank ≡ carry (cmds_at s 5) 0 empties empties → Riding s w 0 bank 0
   unfolding begun table_at
   riding_none bank e = record {
-    within = omega arith;
     inside = omega (arith, table_long s, r.ready.formed.some);
     way =
         ap (λ (x : State). run (table_at s) x 0 w)
@@ -60,7 +58,6 @@ module _ {s places w : List ℕ} (r : Rides s places w) where
     pub riding_next : (n c : ℕ) (new : Bank) → i < length w → get_or w i 0 < 256
         → LeadsTo s (row_for (rows_at s (get_or places q 0 + 10)) (get_or w i 0)) n c → new ≡ carry (cmds_at s c) (i + 1) bank bank → Riding s w n new (i + 1)
     riding_next n c new h b l e = record {
-      within = omega arith;
       inside =
           subst (λ (k : ℕ). k < get_or s 4 0) next
           (let k = next_in T r.ready.formed q x in_q (leads_in T r.ready.formed q (get_or w i 0) in_q b) in omega (arith, table_long s));

@@ -5,91 +5,111 @@ pub mod lists;
 
 ghost use Rattle.std.specs.Prelude.{◌≡◌, map, ◌≤◌, ◌<◌, ◌+◌, length, get_or, take, drop};
 ghost use Rattle.card.specs.Decode.{cmds_at, rows_at, table_at};
-ghost use Rattle.card.specs.Run.{line_max, row_for, at, over, refused, tells};
+ghost use Rattle.card.specs.Run.{line_max, empties, row_for, at, over, tells};
 ghost use Rattle.run.specs.Carry.{carry, LeadsTo, field_at, Rides};
 ghost use Rattle.run.specs.Runs.{told_of, Runs};
 
-use answers::{LINE_LONG, NO_MATCH};
+use answers::Refusal;
 use bank::Bank;
 use card::RowItem;
+use std::array;
+
+// What a field that names no register says.
+const ABSENT: i16 = -1;
+
+// What a situation without an answer says.
+const NO_ANSWER: u8 = 255;
+
+// Where the commands for the start stand in a table.
+const START: usize = 5;
+
+// Where the fields and the rows stand in a situation, and the commands in a row.
+const FIELDS: usize = 2;
+
+const ROWS: usize = 10;
+
+const CMDS: usize = 4;
 
 // The longest line.
 const LINE_MAX: usize = 32767;
 
-// The result: the code, the answer or 255, and the eight places, -1 for absent.
+// What a table tells of a line that it matches: the answer, and the eight places, -1 for absent.
 #[derive(Clone, Copy)]
-pub struct Ran {
-    pub code: u8,
+pub struct Match {
     pub answer: u8,
     pub places: [i16; 8],
 }
 
 // A byte's row: where it leads, and the place of its commands.
 #[derive(Clone, Copy)]
-pub struct Lead {
-    pub next: u8,
-    pub cmds: usize,
+struct Lead {
+    next: u8,
+    cmds: usize,
 }
 
 // Where a run stands.
 #[derive(Clone, Copy)]
-pub struct Stand {
-    pub sit: u8,
-    pub bank: Bank,
-}
-
-// The list of commands at a place, on a bank that is handed in and handed back.
-fn apply_list(s: &[u8], at: usize, place: usize, old: Bank) -> Bank
-    requires { place ≤ line_max }
-    ensures { result.r ≡ carry (cmds_at s.now at) place old.r old.r }
-{
-    let mut r = old.r;
-    lists::carry_list(s, at, place, &mut r);
-    Bank { r }
+struct Stand {
+    sit: u8,
+    bank: Bank,
 }
 
 // The row of a byte, among the rows at a place.
+#[tactic(auto, using(crate::proofs::Carrying::rows), unfolding(card::specs::Run::row_for, ground::specs::Pick::pick))]
 fn find_row(s: &[u8], at: usize, b: u8) -> Lead
     ensures { LeadsTo s.now (row_for (rows_at s.now at) b) result.next result.cmds }
 {
     let mut i = at;
-    loop {
-        let row = card::read_row(s, i);
-        let RowItem::Leads(_, hi, next) = row else {
-            return Lead {
-                next: 0,
-                cmds: s.len(),
-            };
-        };
+    // A loop: rows differ in length, so the next place is known only after the row's commands.
+    while let RowItem::Leads(_, hi, next) = card::read_row(s, i) {
         if b <= hi {
-            return Lead { next, cmds: i + 4 };
+            return Lead {
+                next,
+                cmds: i + CMDS,
+            };
         }
-        i = card::skip_cmds(s, i + 4);
+        i = card::skip_cmds(s, i + CMDS);
+    }
+    // As `row_for` has it: to situation 0, without a command.
+    Lead {
+        next: 0,
+        cmds: s.len(),
     }
 }
 
-// The way of a line through the situations.
-fn run_line(s: &[u8], places: &[usize; 96], line: &[u8]) -> Stand
-    requires { Rides s.now places.now line.now }
+// The way of a line through the situations, on an empty bank that is handed in and handed back by value: document 01 has it so.
+fn run_line(s: &[u8], places: &[usize; 96], line: &[u8], mut bank: Bank) -> Stand
+    requires rides { Rides s.now places.now line.now }
+    requires empty { bank.r ≡ empties }
     ensures { (at result.sit result.bank.r ≡ over (table_at s.now) line.now) × (result.sit < get_or s.now 4 0) }
 {
-    let mut bank = apply_list(s, 5, 0, Bank::empty());
-    let mut sit: u8 = 0;
-    let mut i: usize = 0;
-    while i < line.len() {
-        let q = ground::wide(sit);
-        let p = places[q];
-        let row = find_row(s, p + 10, line[i]);
-        let cmds = row.cmds;
+    lists::carry_list(s, START, 0, &mut bank.r);
+    let mut sit = 0;
+    for (i, b) in line.iter().enumerate() {
+        let p = places[usize::from(sit)];
+        let row = find_row(s, p + ROWS, *b);
         sit = row.next;
-        i += 1;
         // a list that is empty leaves the bank alone
-        let list = cmds;
+        let list = row.cmds;
         if !lists::alone(s, list) {
-            bank = apply_list(s, cmds, i, bank);
+            lists::carry_list(s, list, i + 1, &mut bank.r);
         }
     }
     Stand { sit, bank }
+}
+
+// What a field says: a register's place, or none.
+#[tactic(auto, using(std::proofs::lemmas::Bool::Decides::nat_tests), unfolding(ground::specs::Pick::pick))]
+fn field_at(bank: &[i16], field: u8) -> i16
+    requires { 64 ≤ length bank.now }
+    ensures { result ≡ field_at bank.now field }
+{
+    let register = usize::from(field);
+    if register < 64 {
+        bank[register]
+    } else {
+        ABSENT
+    }
 }
 
 // The places that the eight fields at a place name. That there are eight is shown by whoever knows the situation's place.
@@ -97,63 +117,33 @@ pub fn fields_at(s: &[u8], at: usize, bank: &[i16]) -> [i16; 8]
     requires { (at + 8 ≤ length s.now) × (64 ≤ length bank.now) }
     ensures { result ≡ map (field_at bank.now) (take 8 (drop at s.now)) }
 {
-    let mut out = [-1i16; 8];
-    let mut t: usize = 0;
-    while t < 8 {
-        let f = ground::wide(s[at + t]);
-        if f < 64 {
-            let v = bank[f];
-            out[t] = v;
-        }
-        t += 1;
-    }
-    out
-}
-
-// "Unless OK, .. the run's answer is 255 and its eight positions are -1."
-pub fn refusal(code: u8) -> Ran
-    ensures { told_of result ≡ refused code }
-{
-    Ran {
-        code,
-        answer: 255,
-        places: [-1i16; 8],
-    }
+    array::from_fn(|t| field_at(bank, s[at + t]))
 }
 
 // What a table tells of a line. That the table is taken and the places are those of its situations `judge` shows.
-pub fn run_taken(s: &[u8], places: &[usize; 96], line: &[u8]) -> Ran
+pub fn run_taken(s: &[u8], places: &[usize; 96], line: &[u8]) -> Result<Match, Refusal>
     requires { Rides s.now places.now line.now }
     ensures { told_of result ≡ tells (table_at s.now) line.now }
 {
-    let stand = run_line(s, places, line);
-    let q = ground::wide(stand.sit);
-    let p = places[q];
+    let stand = run_line(s, places, line, Bank::empty());
+    let p = places[usize::from(stand.sit)];
     let answer = s[p + 1];
-    if answer == 255 {
-        return refusal(NO_MATCH);
+    if answer == NO_ANSWER {
+        return Err(Refusal::NoMatch);
     }
-    let bank = stand.bank.r;
-    let fields = fields_at(s, p + 2, &bank);
-    Ran {
-        code: 0,
+    Ok(Match {
         answer,
-        places: fields,
-    }
+        places: fields_at(s, p + FIELDS, &stand.bank.r),
+    })
 }
 
 // Judges the table, then runs it over the line.
-pub fn run(table: &[u8], line: &[u8]) -> Ran
+pub fn run(table: &[u8], line: &[u8]) -> Result<Match, Refusal>
     ensures { Runs table.now line.now (told_of result) }
 {
-    let j = loader::judge(table);
-    let code = j.code;
-    if code != 0 {
-        return refusal(code);
-    }
+    let places = loader::judge(table)?;
     if LINE_MAX < line.len() {
-        return refusal(LINE_LONG);
+        return Err(Refusal::LineLong);
     }
-    let places = j.places;
     run_taken(table, &places, line)
 }

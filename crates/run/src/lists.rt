@@ -7,107 +7,77 @@ ghost use Rattle.run.specs.Carry.{carry, Alone, Tried};
 use card::Order;
 
 // Whether no command stands at a place.
+#[tactic(auto, using(crate::proofs::Carrying::commands))]
 pub fn alone(s: &[u8], at: usize) -> bool
     ensures { Alone s.now at result }
 {
-    let o = card::read_cmd(s, at);
-    match o {
-        Order::Stop => {
-            return true;
-        }
-        Order::Move(_, _) => {
-            return false;
-        }
-        Order::Put(_) => {
-            return false;
-        }
-    }
+    matches!(card::read_cmd(s, at), Order::Stop)
 }
 
 // The whole list at a place: all sources are read from the old bank.
+#[tactic(auto, using(crate::proofs::Carrying::commands), unfolding(crate::specs::Carry::carry))]
 fn move_list(s: &[u8], at: usize, place: usize, old: &[i16; 64], bank: &mut [i16])
     requires { (place ≤ line_max) × (64 ≤ length bank.old) }
     ensures { bank.new ≡ carry (cmds_at s.now at) place old.now bank.old }
 {
     let v = ground::held(place);
     let mut i = at;
+    // A loop: commands differ in length, so the next place is known only after the command.
     loop {
-        let o = card::read_cmd(s, i);
-        match o {
+        match card::read_cmd(s, i) {
             Order::Move(to, from) => {
-                let x = old[from];
-                bank[to] = x;
+                bank[to] = old[from];
                 i += 3;
             }
             Order::Put(to) => {
                 bank[to] = v;
                 i += 2;
             }
-            Order::Stop => {
-                return;
-            }
+            Order::Stop => return,
         }
     }
 }
 
 // A list whose first command, which `pair` read, stores x to a register, and whose other commands stand at a place.
 // False, with nothing stored, if there are two of them or more.
+#[tactic(auto, using(crate::proofs::Carrying::commands), unfolding(crate::specs::Carry::carry))]
 fn pair_rest(s: &[u8], at: usize, place: usize, to: usize, x: i16, bank: &mut [i16]) -> bool
     requires { (place ≤ line_max) × (to < 64) × (64 ≤ length bank.old) }
     ensures { Tried s.now at place bank.old (set bank.old to x) bank.new result }
 {
-    let o = card::read_cmd(s, at);
-    match o {
+    match card::read_cmd(s, at) {
         Order::Stop => {
             bank[to] = x;
-            return true;
+            true
         }
-        Order::Put(u) => {
-            if !alone(s, at + 2) {
-                return false;
-            }
-            let v = ground::held(place);
+        Order::Put(u) if alone(s, at + 2) => {
             bank[to] = x;
-            bank[u] = v;
-            return true;
+            bank[u] = ground::held(place);
+            true
         }
-        Order::Move(u, f) => {
-            if !alone(s, at + 3) {
-                return false;
-            }
+        Order::Move(u, f) if alone(s, at + 3) => {
             let y = bank[f];
             bank[to] = x;
             bank[u] = y;
-            return true;
+            true
         }
+        _ => false,
     }
 }
 
 // The list at a place, if it has no more than two commands: what is stored is read before anything is stored, so there is no
 // old bank to keep. Else false, with nothing stored.
+#[tactic(auto, using(crate::proofs::Carrying::commands), unfolding(crate::specs::Carry::carry))]
 fn pair(s: &[u8], at: usize, place: usize, bank: &mut [i16]) -> bool
     requires { (place ≤ line_max) × (64 ≤ length bank.old) }
     ensures { Tried s.now at place bank.old bank.old bank.new result }
 {
-    let mut x = ground::held(place);
-    let mut to: usize = 0;
-    let mut i = at;
-    let o = card::read_cmd(s, at);
-    match o {
-        Order::Stop => {
-            return true;
-        }
-        Order::Put(t) => {
-            to = t;
-            i += 2;
-        }
-        Order::Move(t, f) => {
-            to = t;
-            x = bank[f];
-            i += 3;
-        }
-    }
-    pair_rest(s, i, place, to, x, bank)
+    let (to, x, rest) = match card::read_cmd(s, at) {
+        Order::Stop => return true,
+        Order::Put(to) => (to, ground::held(place), at + 2),
+        Order::Move(to, from) => (to, bank[from], at + 3),
+    };
+    pair_rest(s, rest, place, to, x, bank)
 }
 
 // The registers kept, for what a list reads: its sources are below 64.
@@ -115,24 +85,19 @@ fn kept(bank: &[i16]) -> [i16; 64]
     requires { 64 ≤ length bank.now }
     ensures { result ≡ take 64 bank.now }
 {
-    let mut out = [-1i16; 64];
-    let mut t: usize = 0;
-    while t < 64 {
-        let v = bank[t];
-        out[t] = v;
-        t += 1;
-    }
+    let mut out = [0; 64];
+    out.copy_from_slice(&bank[..64]);
     out
 }
 
 // The list at a place, on a bank whose first 64 cells are the registers. That the place fits is shown by whoever counted to it.
+#[tactic(auto, using(crate::proofs::Cells::carry_registers))]
 pub fn carry_list(s: &[u8], at: usize, place: usize, bank: &mut [i16])
     requires { (place ≤ line_max) × (64 ≤ length bank.old) }
     ensures { bank.new ≡ carry (cmds_at s.now at) place bank.old bank.old }
 {
-    if pair(s, at, place, bank) {
-        return;
+    if !pair(s, at, place, bank) {
+        let old = kept(bank);
+        move_list(s, at, place, &old, bank);
     }
-    let old = kept(bank);
-    move_list(s, at, place, &old, bank);
 }

@@ -1,26 +1,21 @@
 -- `build::attempt` meets its contract. Assumes nothing.
-use mathlib.Core.Path.{◌≡◌, refl}
-use Prim.Native.Nat.{◌-◌}
+use mathlib.Core.Path.{refl}
 use native.Mathlib.Omega.{arith}
-use Rattle.build.proofs.Verdict.{small_room, refused_net, taken_net, laid_room, laid_ready, laid_net}
+use Rattle.std.proofs.lemmas.Result.{err_from_is_err_and}
+use Rattle.build.proofs.Verdict.{small_room, refused_net, taken_net, laid_ready}
 use borrow.Author.Rules.{rules}
 use Rattle.build.proofs.attempt.Goals as goal
 
 pub returns-then-work-lt-WORK : goal.returns-then-work-lt-WORK
-returns-then-work-lt-WORK c = record { size = refl; attempts = small_room _ _ _ c.if-work-lt-WORK.true _ c.refuse.ensures }
+returns-then-work-lt-WORK c = record { size = refl; attempts = small_room _ _ _ c.if-work-lt-WORK.true }
 
-pub returns-then-p-ne0 : goal.returns-then-p-ne0
-returns-then-p-ne0 c = record { size = refl; attempts = refused_net _ _ _ c.if-work-lt-WORK.false _ c.places-p.ensures.code c.if-p-ne0.true _ c.refuse-then-p-ne0.ensures }
-
-pub slice_bounds-make-end : goal.slice_bounds-make-end
-slice_bounds-make-end c = laid_room _ _ c.places-p.ensures c.if-p-ne0.false
+pub returns-in_err-p : goal.returns-in_err-p
+returns-in_err-p c =
+    let p = err_from_is_err_and c.from_residual.result c.from_residual.ensures.1 in
+    record { size = refl; attempts = rw (p.1, p.2) (refused_net _ _ _ c.if-work-lt-WORK.false _ c.in_err-p.ensures) }
 
 pub make-requires : goal.make-requires
-make-requires c =
-    let z : c.places-p.result.count - 0 ≡ c.places-p.result.count = omega arith in
-    record { formed = laid_ready _ _ c.places-p.ensures c.if-p-ne0.false _ z; in_bounds = omega (arith, c.if-work-lt-WORK.false) }
+make-requires c = record { formed = laid_ready _ _ c.in_ok-p.ensures; in_bounds = omega (arith, c.if-work-lt-WORK.false) }
 
 pub returns : goal.returns
-returns c =
-    let z : c.places-p.result.count - 0 ≡ c.places-p.result.count = omega arith in
-    record { size = search rules; attempts = taken_net _ _ _ c.if-work-lt-WORK.false _ _ (laid_net _ _ c.places-p.ensures c.if-p-ne0.false _ z) _ _ c.make.ensures.makes }
+returns c = record { size = search rules; attempts = taken_net _ _ _ c.if-work-lt-WORK.false _ _ c.in_ok-p.ensures.placed.reads _ _ c.make.ensures.makes }

@@ -1,11 +1,16 @@
 -- `build::make` meets its contract. Assumes nothing.
+use Rattle.std.proofs.Common.{◌∙◌}
+use Rattle.std.proofs.lemmas.Result.{err_from_is_err_and}
+use Rattle.build.proofs.Verdict.{stopped, no_room, room}
 use Rattle.build.proofs.make.Goals as goal
 
-pub news-news-requires : goal.news-news-requires
-news-news-requires c = c.requires.formed.0
+pub returns-in_err-count-clause-makes : goal.returns-in_err-count-clause-makes
+returns-in_err-count-clause-makes c =
+    let p = err_from_is_err_and c.from_residual.result c.from_residual.ensures.1 in
+    rw (p.1, p.2) (stopped _ _ _ _ c.in_err-count.ensures.what)
 
-pub lay-requires : goal.lay-requires
-lay-requires c = record { formed = (c.requires.formed.0, (c.requires.formed.1, c.news-news.ensures)); in_bounds = c.requires.in_bounds }
+pub returns-then-out-length-clause-makes : goal.returns-then-out-length-clause-makes
+returns-then-out-length-clause-makes c = no_room _ c.in_ok-count.ensures.what _ c.table-length.ensures _ c.if-out-length.true
 
-pub returns : goal.returns
-returns c = record { size = c.lay.ensures.size; makes = c.lay.ensures.makes }
+pub returns-clause-makes : goal.returns-clause-makes
+returns-clause-makes c = room _ c.in_ok-count.ensures.what _ c.table-length.ensures _ c.if-out-length.false c.table.ensures (c.from.ensures ∙ c.most.ensures)

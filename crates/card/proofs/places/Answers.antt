@@ -1,35 +1,17 @@
 -- `card::places` meets its contract: the invariant is `Noting`. Assumes nothing.
 use native.Mathlib.Omega.{arith}
-use mathlib.Core.Path.{refl}
+use lib.ListN.{length-take}
 use Rattle.card.proofs.Situations.{noting_begins, noting_on, noting_ends}
 use Rattle.card.proofs.places.Goals as goal
 
-pub loop-k-init : goal.loop-k-init
-loop-k-init c = (noting_begins _ c.skip_cmds-p.ensures.0 c.sit_count-count.ensures.0, c.sit_count-count.ensures.1, refl)
-
-pub shape_of-at-then-room-k : goal.shape_of-at-then-room-k
-shape_of-at-then-room-k c = c.loop-k.invariant.0.long
-
-pub returns-then-room-k : goal.returns-then-room-k
-returns-then-room-k c = noting_ends c.loop-k.invariant.0 (omega arith)
-
-pub offset_bounds-at-k : goal.offset_bounds-at-k
-offset_bounds-at-k c = omega (arith, c.loop-k.invariant.0.upto)
-
-pub bounds-at-k : goal.bounds-at-k
-bounds-at-k c = omega (arith, c.loop-k.invariant.0.long)
+pub loop-place-init : goal.loop-place-init
+loop-place-init c = noting_begins _ c.skip_cmds-p.ensures.0
 
 pub overflow_add-p : goal.overflow_add-p
-overflow_add-p c = omega (arith, c.loop-k.invariant.0.most, c.loop-k.invariant.0.upto, c.well_formed.0.1)
+overflow_add-p c = omega (arith, c.loop-place.invariant.most, c.well_formed.0.1, c.sit_count.ensures, length-take c.min-count.result c.args.at.now)
 
-pub overflow_add-k : goal.overflow_add-k
-overflow_add-k c = omega (arith, c.loop-k.invariant.0.upto)
-
-pub loop-k-preserved : goal.loop-k-preserved
-loop-k-preserved c = (noting_on c.loop-k.invariant.0 c.loop-k-test.true (omega arith) _ c.skip_rows-p.ensures.0, c.loop-k.invariant.1, c.loop-k.invariant.2)
-
-pub shape_of-at : goal.shape_of-at
-shape_of-at c = c.loop-k.invariant.0.long
+pub loop-place-preserved : goal.loop-place-preserved
+loop-place-preserved c = noting_on c.loop-place.invariant c.loop-place-test.true _ c.skip_rows-p.ensures.0
 
 pub returns : goal.returns
-returns c = noting_ends c.loop-k.invariant.0 (omega arith)
+returns c = noting_ends c.args.at.now _ c.loop-place.invariant c.loop-place-test.false (omega arith) (omega arith)

@@ -6,4 +6,4 @@ use Rattle.classes.proofs.class_word.Goals as goal
 
 pub returns : goal.returns
 unfolding class_word
-returns c = table_at class_word 0 256 c.args.b c.ranges.b.fits
+returns c = rw c.from.ensures (table_at class_word 0 256 c.args.b c.ranges.b.fits)

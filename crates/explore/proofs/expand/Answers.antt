@@ -1,44 +1,30 @@
 -- `explore::expand` meets its contract. Assumes nothing.
-use mathlib.Core.Path.{refl, sym, ◌∙◌}
+use mathlib.Core.Path.{sym, ◌∙◌}
 use native.Mathlib.Omega.{arith}
+use Rattle.std.proofs.lemmas.Result.{err_from_is_err_and}
 use Rattle.explore.proofs.Classes.{skipped}
 use Rattle.explore.proofs.Exploration.{once_none, expand_stop, expand_on, expanded, loaded}
 use Rattle.explore.proofs.expand.Goals as goal
-use Rattle.explore.proofs.expand.Goals.{then-news-b-ne0+else-t-ne0, else-news-b-ne0}
-
-pub load-s-requires : goal.load-s-requires
-load-s-requires c = omega (arith, c.requires.kept.0.room, c.requires.kept.0.most, c.requires.kept.1)
+use Rattle.explore.proofs.expand.Goals.{then-new-ne0+in_ok-n, else-new-ne0}
 
 pub loop-b-init : goal.loop-b-init
-loop-b-init c = (omega arith, (refl, (c.requires.kept.0, once_none _ _)))
+loop-b-init c = (c.requires.kept.0, once_none _ _)
 
-pub bounds-news-b : goal.bounds-news-b
-bounds-news-b c = omega (arith, c.requires.formed.1.size)
+pub try_byte-requires-clause-holds : goal.try_byte-requires-clause-holds
+try_byte-requires-clause-holds c = ((loaded _ _ _ _ (c.requires.kept.0.holds _ c.requires.kept.1) c.load-s.ensures).1, c.load-s.ensures.size)
 
-pub slice_bounds-try_byte-end : goal.slice_bounds-try_byte-end
-slice_bounds-try_byte-end c = sym c.load-s.ensures.size
-
-pub try_byte-t-requires : goal.try_byte-t-requires
-try_byte-t-requires c = record { formed = c.requires.formed.0; kept = c.loop-b.invariant.1.1.0; holds = ((loaded _ _ _ _ (c.requires.kept.0.holds _ c.requires.kept.1) c.load-s.ensures).1, c.load-s.ensures.size) }
-
-pub shape_of-work-then-t-ne0 : goal.shape_of-work-then-t-ne0
-shape_of-work-then-t-ne0 c = c.try_byte-t.ensures.size ∙ c.loop-b.invariant.1.0
-
-pub returns-then-t-ne0 : goal.returns-then-t-ne0
-returns-then-t-ne0 c = expand_stop _ _ _ _ _ _ _ _ _ (loaded _ _ _ _ (c.requires.kept.0.holds _ c.requires.kept.1) c.load-s.ensures).0 _ _ c.loop-b.invariant.1.0 c.loop-b.invariant.1.1.1 c.try_byte-t.ensures (omega arith) c.if-t-ne0.true
+pub returns-in_err-n : goal.returns-in_err-n
+returns-in_err-n c =
+    let p = err_from_is_err_and c.from_residual.result c.from_residual.ensures.1 in
+    rw (p.1, p.2) (expand_stop _ _ _ _ _ _ _ _ _ (loaded _ _ _ _ (c.requires.kept.0.holds _ c.requires.kept.1) c.load-s.ensures).0 _ c.loop-b.auto.work c.loop-b.invariant.1 _ c.in_err-n.ensures (omega (arith, c.requires.formed.1.size)))
 
 pub loop-b-preserved : goal.loop-b-preserved
 loop-b-preserved c =
-    let m = loaded _ _ _ _ (c.requires.kept.0.holds _ c.requires.kept.1) c.load-s.ensures in (
-      omega arith,
-      elim c.if-news-b-ne0.branch [
-        | then-news-b-ne0+else-t-ne0 w ↦ rw (w.work-is, w.n-is) (w.try_byte-t.ensures.size ∙ c.loop-b.invariant.1.0, expand_on _ _ c.args.work.now _ _ _ _ _ _ m.0 _ _ c.loop-b.invariant.1.0 c.loop-b.invariant.1.1.1 w.try_byte-t.ensures w.if-t-ne0.false)
-        | else-news-b-ne0 w ↦ rw (w.work-is, w.n-is) (c.loop-b.invariant.1.0, (c.loop-b.invariant.1.1.0, c.loop-b.invariant.1.1.1 ∙ sym (skipped c.requires.formed.0 _ (c.requires.formed.1.old c.loop-b.b (omega arith) w.if-news-b-ne0.false) _ m.1.below _)))
-      ],
-    )
-
-pub shape_of-work : goal.shape_of-work
-shape_of-work c = c.loop-b.invariant.1.0
+    let m = loaded _ _ _ _ (c.requires.kept.0.holds _ c.requires.kept.1) c.load-s.ensures in
+    elim c.if-new-ne0.branch [
+      | then-new-ne0+in_ok-n w ↦ rw (w.work-is, w.n-is) (expand_on _ _ c.args.work.now _ _ _ _ _ _ m.0 _ c.loop-b.auto.work c.loop-b.invariant.1 _ w.in_ok-n.ensures)
+      | else-new-ne0 w ↦ rw (w.work-is, w.n-is) (c.loop-b.invariant.0, c.loop-b.invariant.1 ∙ sym (skipped c.requires.formed.0 _ (c.requires.formed.1.old c.loop-b.b (omega (arith, c.requires.formed.1.size)) w.if-new-ne0.false) _ m.1.below _))
+    ]
 
 pub returns : goal.returns
-returns c = expanded _ _ _ _ _ _ _ _ (loaded _ _ _ _ (c.requires.kept.0.holds _ c.requires.kept.1) c.load-s.ensures).0 c.loop-b.b (omega arith) c.loop-b.invariant.1.0 c.loop-b.invariant.1.1.0 c.loop-b.invariant.1.1.1
+returns c = expanded _ _ _ _ _ _ _ _ (loaded _ _ _ _ (c.requires.kept.0.holds _ c.requires.kept.1) c.load-s.ensures).0 c.loop-b.b (omega (arith, c.requires.formed.1.size)) c.loop-b.auto.work c.loop-b.invariant.0 c.loop-b.invariant.1

@@ -1,8 +1,6 @@
 -- `explore::expand` meets its contract. Assumes nothing.
-use mathlib.Core.Path.{◌≡◌}
+use Rattle.std.proofs.Common.{◌≡◌, length}
 use mathlib.Core.List.{map}
-use Prim.Native.Nat.{◌≤◌, ◌-◌}
-use lib.ListN.{length}
 use Rattle.paths.specs.Registers.{next}
 use Rattle.paths.specs.Equal.{same_situation}
 use Rattle.paths.specs.Numbering.{once}
@@ -12,8 +10,6 @@ use Rattle.explore.specs.Slots.{slot, slots}
 use Rattle.explore.specs.Explore.{Kept}
 use Rattle.explore.proofs.expand.Given as goal
 
+-- what the bytes below b lead to is stored
 abbrev pub invariant-loop-b : goal.invariant-loop-b
-invariant-loop-b l = (l.b ≤ 256) × ((length l.work ≡ length l.initial.work) × (Kept (length l.offs) l.work l.n × (slots l.work 0 l.n ≡ once same_situation (slots l.initial.work 0 l.count) (map (λ b. next (net_at l.file l.offs) b (slot l.s 0)) (bytes 0 l.b)))))
-
-abbrev pub decreases-loop-b : goal.decreases-loop-b
-decreases-loop-b l = 256 - l.b
+invariant-loop-b l = Kept (length l.offs) l.work l.n × (slots l.work 0 l.n ≡ once same_situation (slots l.initial.work 0 l.count) (map (λ b. next (net_at l.file l.offs) b (slot l.s 0)) (bytes 0 l.b)))

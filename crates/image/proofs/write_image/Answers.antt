@@ -1,50 +1,29 @@
 -- `image::write_image` meets its contract: the invariant is `Written`. Assumes nothing.
+use Prim.Native.Nat.{◌+◌, ◌-◌, ◌*◌, ◌<◌}
 use native.Mathlib.Omega.{arith}
+use mathlib.Core.Path.{◌≡◌}
+use lib.ListN.{get_or}
+use lib.Seq.{get_or-take}
 use Rattle.loader.proofs.Situated.{count_most, room_here}
-use Rattle.image.proofs.Written.{written_none, written_on, written_all}
+use Rattle.image.proofs.Written.{written_next}
 use Rattle.image.proofs.write_image.Goals as goal
 
-pub loop-q-init : goal.loop-q-init
-loop-q-init c = written_none _ _
-
-pub offset_bounds-places-q : goal.offset_bounds-places-q
-offset_bounds-places-q c = omega (arith, count_most c.requires.ready, c.sit_count-count.ensures.0)
-
-pub bounds-places-q : goal.bounds-places-q
-bounds-places-q c = omega (arith, count_most c.requires.ready, c.sit_count-count.ensures.0)
+pub shared_ref_as_front-p-items : goal.shared_ref_as_front-p-items
+shared_ref_as_front-p-items c = omega (arith, count_most c.requires.ready)
 
 pub overflow_add-p : goal.overflow_add-p
-overflow_add-p c = let h = room_here c.requires.ready {q = c.loop-q.q} (omega (arith, c.sit_count-count.ensures.0)) in omega (arith, c.requires.short)
+overflow_add-p c =
+    rw (get_or-take c.sit_count-count.result c.args.places.now c.loop-q.q 0 (omega arith))
+    (omega (arith, room_here c.requires.ready {q = c.loop-q.q} (omega arith)))
 
-pub overflow_mul-q : goal.overflow_mul-q
-overflow_mul-q c = omega (arith, count_most c.requires.ready, c.sit_count-count.ensures.0)
-
-pub fill_row-requires : goal.fill_row-requires
-fill_row-requires c = record { room = omega (arith, c.requires.room, c.loop-q.invariant.long, c.sit_count-count.ensures.0); low = omega (arith, count_most c.requires.ready, c.sit_count-count.ensures.0) }
-
-pub place_word-requires : goal.place_word-requires
-place_word-requires c = let h = room_here c.requires.ready {q = c.loop-q.q} (omega (arith, c.sit_count-count.ensures.0)) in omega (arith, c.requires.short)
-
-pub overflow_mul-image : goal.overflow_mul-image
-overflow_mul-image c = omega (arith, c.sit_count-count.ensures.1)
-
-pub overflow_add-image : goal.overflow_add-image
-overflow_add-image c = omega (arith, c.sit_count-count.ensures.1)
-
-pub offset_bounds-image-count : goal.offset_bounds-image-count
-offset_bounds-image-count c = omega (arith, c.sit_count-count.ensures.1)
-
-pub bounds-image-count : goal.bounds-image-count
-bounds-image-count c = omega (arith, c.requires.room, c.loop-q.invariant.long, c.sit_count-count.ensures.0, c.fill_row.ensures.long)
-
-pub overflow_add-q : goal.overflow_add-q
-overflow_add-q c = omega (arith, c.sit_count-count.ensures.1)
+pub overflow_cast-image : goal.overflow_cast-image
+overflow_cast-image c =
+    rw (get_or-take c.sit_count-count.result c.args.places.now c.loop-q.q 0 (omega arith))
+    (omega (arith, room_here c.requires.ready {q = c.loop-q.q} (omega arith), c.requires.short))
 
 pub loop-q-preserved : goal.loop-q-preserved
-loop-q-preserved c = written_on c.requires c.loop-q.invariant (omega (arith, c.sit_count-count.ensures.0)) c.sit_count-count.ensures.0 _ _ c.fill_row.ensures c.place_word.ensures
-
-pub shape_of-image : goal.shape_of-image
-shape_of-image c = c.loop-q.invariant.long
-
-pub returns : goal.returns
-returns c = written_all c.loop-q.invariant (omega (arith, c.sit_count-count.ensures.0))
+loop-q-preserved c =
+    let l : c.loop-q.q < get_or c.args.s.now 4 0 = omega arith in
+    let k : 256 * c.loop-q.q + 256 - 256 * c.loop-q.q ≡ 256 = omega arith in
+    let p = get_or-take c.sit_count-count.result c.args.places.now c.loop-q.q 0 (omega arith) in
+    rw (k, p, c.sit_count-count.ensures.0) (written_next c.requires c.loop-q.invariant l c.fill_row.new.row (omega arith) (rw p at c.fill_row.ensures))

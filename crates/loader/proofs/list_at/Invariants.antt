@@ -5,7 +5,7 @@ use Rattle.loader.proofs.Listing.{Listing}
 use Rattle.loader.proofs.list_at.Given as goal
 
 abbrev pub invariant-loop-to : goal.invariant-loop-to
-invariant-loop-to l = Listing l.s l.at l.writes l.reads l.i
+invariant-loop-to l = Listing l.s l.at l.g.writes l.g.reads l.g.end
 
 abbrev pub decreases-loop-to : goal.decreases-loop-to
-decreases-loop-to l = length l.s - l.i
+decreases-loop-to l = length l.s - l.g.end

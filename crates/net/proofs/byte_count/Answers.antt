@@ -1,31 +1,42 @@
 -- `net::byte_count` meets its contract. Assumes nothing.
-use mathlib.Core.Path.{ap, ◌∙◌}
+use mathlib.Core.Path.{◌≡◌, ap, ◌∙◌}
+use Prim.Native.Nat.{ℕ, ◌+◌, ◌-◌}
+use lib.ListN.{take, drop}
 use native.Mathlib.Omega.{arith}
-use Rattle.net.specs.Count.{refuse, byte_count}
-use Rattle.net.proofs.Counting.{count_refused, layout_few, absent, never_refused, can_count, counts_it}
+use Rattle.std.proofs.lemmas.Result.{err_from_is_err_and}
+use Rattle.net.specs.Count.{count_below, bit_set}
+use Rattle.net.proofs.Counting.{count_refused, absent, here_whole, can_count, neither, counts_it}
 use Rattle.net.proofs.byte_count.Goals as goal
 
-pub returns-then-code-ne0 : goal.returns-then-code-ne0
-unfolding byte_count
-returns-then-code-ne0 c = c.refused.ensures ∙ ap refuse c.places-p.ensures.code ∙ count_refused _ _ (λ z. c.if-code-ne0.true (c.places-p.ensures.code ∙ z))
+pub returns-in_err-p : goal.returns-in_err-p
+returns-in_err-p c =
+    let p = err_from_is_err_and c.from_residual.result c.from_residual.ensures.1 in
+    rw (p.1, p.2) (count_refused _ _ c.in_err-p.ensures _)
 
-pub returns-then-count-index : goal.returns-then-count-index
-returns-then-count-index c = c.refused-then-count-index.ensures ∙ absent c.places-p.ensures c.if-code-ne0.false _ c.if-count-index.true
+pub returns-then-p-index : goal.returns-then-p-index
+returns-then-p-index c = absent c.in_ok-p.ensures _ c.if-p-index.true
 
-pub offset_bounds-offs-index : goal.offset_bounds-offs-index
-offset_bounds-offs-index c = omega (arith, layout_few c.places-p.ensures c.if-code-ne0.false)
+pub record_at-requires : goal.record_at-requires
+record_at-requires c = here_whole c.in_ok-p.ensures _ c.if-p-index.false
 
-pub bounds-offs-index : goal.bounds-offs-index
-bounds-offs-index c = omega (arith, layout_few c.places-p.ensures c.if-code-ne0.false)
+pub range_count-requires : goal.range_count-requires
+range_count-requires c = can_count c.in_ok-p.ensures _ c.if-p-index.false _ c.in-Range.ensures
 
-pub overflow_cast-count : goal.overflow_cast-count
-overflow_cast-count c = omega (arith, layout_few c.places-p.ensures c.if-code-ne0.false)
+pub overflow_add-at : goal.overflow_add-at
+overflow_add-at c = let h = can_count c.in_ok-p.ensures _ c.if-p-index.false _ c.in-Mask.ensures in omega arith
+
+pub slice_bounds-mask_count-end : goal.slice_bounds-mask_count-end
+slice_bounds-mask_count-end c = can_count c.in_ok-p.ensures _ c.if-p-index.false _ c.in-Mask.ensures
+
+pub returns-in-Range : goal.returns-in-Range
+returns-in-Range c =
+    ap (λ (n : ℕ). record { code = 0; count = n }) c.range_count.ensures ∙ counts_it c.in_ok-p.ensures _ c.if-p-index.false _ c.in-Range.ensures
+
+pub returns-in-Mask : goal.returns-in-Mask
+returns-in-Mask c =
+    let l : c.in-Mask.at + 32 - c.in-Mask.at ≡ 32 = omega arith in
+    ap (λ (n : ℕ). record { code = 0; count = n }) (c.mask_count.ensures ∙ ap (λ (k : ℕ). count_below 256 (bit_set (take k (drop c.in-Mask.at c.args.net.now)))) l)
+    ∙ counts_it c.in_ok-p.ensures _ c.if-p-index.false _ c.in-Mask.ensures
 
 pub returns-in_default : goal.returns-in_default
-returns-in_default c = absurd (never_refused c.places-p.ensures c.if-code-ne0.false _ c.if-count-index.false _ c.next_item-n.ensures _ c.in_default.is)
-
-pub item_count-requires : goal.item_count-requires
-item_count-requires c = can_count c.places-p.ensures c.if-code-ne0.false _ c.if-count-index.false _ c.next_item-n.ensures _ _ c.in-Got.is
-
-pub returns : goal.returns
-returns c = c.item_count.ensures ∙ counts_it c.places-p.ensures c.if-code-ne0.false _ c.if-count-index.false _ c.next_item-n.ensures _ _ c.in-Got.is
+returns-in_default c = neither _ _ c.in_default.not-Range c.in_default.not-Mask ∙ counts_it c.in_ok-p.ensures _ c.if-p-index.false _ c.record_at.ensures

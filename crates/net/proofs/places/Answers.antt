@@ -1,38 +1,36 @@
--- `net::places` meets its contract. The loop keeps, of the records passed, their places, and of the rest what the file still has to say (Laying.antt). Assumes nothing.
-use mathlib.Core.Path.{refl, ap, ◌∙◌}
+-- `net::places` meets its contract. Assumes nothing.
+use mathlib.Core.Path.{sym}
 use native.Mathlib.Omega.{arith}
-use Rattle.net.specs.Items.{net_extra, number}
-use Rattle.net.specs.Calls.{head_refusal_of, refusal_of}
-use Rattle.net.proofs.Laying.{head_counts, head_bad, shown_got, shown_stop, laid_none, code_bad, fill_begins, fill_stop, fill_on, fill_extra, fill_ends}
+use Rattle.std.proofs.lemmas.Result.{err_from_is_err_and}
+use Rattle.net.proofs.Laying.{head_few, head_room, head_refused, shown_got, fill_begins, fill_stop, fill_on, fill_extra, fill_ends}
 use Rattle.net.proofs.places.Goals as goal
 
-pub returns-in_default : goal.returns-in_default
-returns-in_default c = let b = head_bad _ _ _ c.read_head-h.ensures c.in_default.is in
-    laid_none _ b.0 _ (c.head_refusal.ensures ∙ ap head_refusal_of c.in_default.is ∙ b.2) (code_bad _ _ b.1) _ c.none.ensures
+pub returns-in_err-tags : goal.returns-in_err-tags
+returns-in_err-tags c =
+    let p = err_from_is_err_and c.from_residual.result c.from_residual.ensures.1 in
+    rw (p.1, p.2) (head_refused _ _ c.in_err-tags.ensures)
 
-pub loop-i-init : goal.loop-i-init
-loop-i-init c = fill_begins _ _ _ (head_counts _ _ _ _ c.read_head-h.ensures c.in-Counts.is)
+pub slice_bounds-found-end : goal.slice_bounds-found-end
+slice_bounds-found-end c = head_few _ _ _ _ c.in_ok-tags.ensures c.from-n.ensures
 
-pub offset_bounds-found-i : goal.offset_bounds-found-i
-offset_bounds-found-i c = omega (arith, c.loop-i.invariant.few)
+pub slice_bounds-place-items-end : goal.slice_bounds-place-items-end
+slice_bounds-place-items-end c = sym (head_room _ _ _ _ c.in_ok-tags.ensures c.from-n.ensures)
 
-pub bounds-found-i : goal.bounds-found-i
-bounds-found-i c = omega (arith, c.loop-i.invariant.few, c.loop-i.invariant.long)
+pub loop-place-init : goal.loop-place-init
+loop-place-init c = fill_begins _ _ _ _ c.in_ok-tags.ensures c.from-n.ensures _ (head_room _ _ _ _ c.in_ok-tags.ensures c.from-n.ensures)
 
-pub returns-in_default-r : goal.returns-in_default-r
-returns-in_default-r c = let b = shown_stop _ _ _ _ c.next_item-r.ensures c.in_default-r.is in
-    laid_none _ b.0 _ (c.refusal.ensures ∙ ap refusal_of c.in_default-r.is ∙ b.2) (fill_stop _ _ _ _ _ _ _ c.loop-i.invariant c.loop-i-test.true _ b.1) _ c.none-in_default-r.ensures
+pub returns-in_err-at : goal.returns-in_err-at
+returns-in_err-at c =
+    let p = err_from_is_err_and c.from_residual-in_err-at.result c.from_residual-in_err-at.ensures.1 in
+    rw (p.1, p.2) (fill_stop _ _ _ _ _ _ _ c.loop-place.invariant (omega arith) _ c.in_err-at.ensures)
 
-pub overflow_add-i : goal.overflow_add-i
-overflow_add-i c = omega (arith, c.loop-i.invariant.few)
-
-pub loop-i-preserved : goal.loop-i-preserved
-loop-i-preserved c = let g = shown_got _ _ _ _ _ c.next_item-r.ensures c.in-Got.is in
-    fill_on _ _ _ _ _ _ _ c.loop-i.invariant c.loop-i-test.true _ _ g.1
-
-pub returns-then-at-end : goal.returns-then-at-end
-unfolding number
-returns-then-at-end c = laid_none _ net_extra _ refl (fill_extra _ _ _ _ _ _ _ c.loop-i.invariant c.loop-i-test.false c.if-at-end.true) _ c.none-then-at-end.ensures
+pub loop-place-preserved : goal.loop-place-preserved
+loop-place-preserved c =
+    let g = shown_got _ _ _ _ c.in_ok-at.ensures in
+    fill_on _ _ _ _ _ _ _ c.loop-place.invariant (omega arith) _ _ g.1
 
 pub returns : goal.returns
-returns c = fill_ends _ _ _ _ _ _ _ c.loop-i.invariant c.loop-i-test.false c.if-at-end.false (λ j. (c.type_inv.net j).fits)
+returns c = fill_ends _ _ _ _ _ _ _ c.loop-place.invariant (omega arith) c.if-at-end.false (λ j. (c.type_inv.net j).fits)
+
+pub returns-then-at-end : goal.returns-then-at-end
+returns-then-at-end c = fill_extra _ _ _ _ _ _ _ c.loop-place.invariant (omega arith) c.if-at-end.true

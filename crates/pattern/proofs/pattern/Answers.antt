@@ -1,35 +1,50 @@
--- `pattern` keeps its promise, check by check. Assumes nothing.
-use mathlib.Core.Path.{sym, ◌∙◌}
-use native.Mathlib.Omega.{arith}
+-- `pattern` keeps the promise of the pattern maker, check by check. Assumes nothing.
+use Rattle.std.proofs.Common.{arith}
+use Rattle.std.proofs.lemmas.Result.{err_from_is_err_and}
 use Rattle.pattern.specs.Reader.{alts, read}
 use Rattle.pattern.proofs.Steps.{far, inv}
-use Rattle.pattern.proofs.Sane.{read_sane}
-use Rattle.pattern.proofs.Top.{pat, at_long, at_form, at_deep, at_open, at_big, at_small, room, room_end, at_ok}
+use Rattle.pattern.proofs.Sane.{Sane, read_sane}
+use Rattle.pattern.proofs.Top.{pat, at_long, at_fault, at_open, at_big, at_small, room, room_end, at_ok}
+use Rattle.pattern.proofs.pattern.Goals.{Else-sum-ge-RECORDS}
 use Rattle.pattern.proofs.pattern.Goals as goal
 
-pub returns-then-text-gt255 : goal.returns-then-text-gt255
-returns-then-text-gt255 c = at_long c.args.text.now c.args.out.now c.refuse.result c.if-text-gt255.true c.refuse.ensures
+sane : (c : Else-sum-ge-RECORDS) → Sane (pat c.args.text.now c.args.out.now c.if-text-gt-BYTES.false c.in_ok-end.ensures)
+sane c = read_sane c.args.text.now (λ i. (c.type_inv.text i).fits) alts 0 0 c.in_ok-end.end _ (inv (read c.args.text.now alts 0 0) c.in_ok-end.ensures).is
+
+pub returns-then-text-gt-BYTES : goal.returns-then-text-gt-BYTES
+returns-then-text-gt-BYTES c = at_long c.args.text.now c.args.out.now c.if-text-gt-BYTES.true
+
+pub returns-in_err-end : goal.returns-in_err-end
+returns-in_err-end c =
+    let p = err_from_is_err_and c.from_residual.result c.from_residual.ensures.1 in
+    rw (p.1, p.2) (at_fault c.args.text.now c.args.out.now c.if-text-gt-BYTES.false c.in_err-end.ensures)
 
 pub returns-then-end-text : goal.returns-then-end-text
-returns-then-end-text c = let q = sym c.in-Ok.is ∙ c.alternatives-found.ensures in at_open c.args.text.now c.args.out.now c.if-text-gt255.false c.in-Ok.end c.in-Ok.sum q c.refuse-then-end-text.result c.if-end-text.true c.refuse-then-end-text.ensures
+returns-then-end-text c = at_open c.args.text.now c.args.out.now c.if-text-gt-BYTES.false c.in_ok-end.ensures c.if-end-text.true
 
-pub returns-then-size-ge-RECORDS : goal.returns-then-size-ge-RECORDS
-returns-then-size-ge-RECORDS c = let q = sym c.in-Ok.is ∙ c.alternatives-found.ensures in at_big c.args.text.now c.args.out.now c.if-text-gt255.false c.in-Ok.end c.in-Ok.sum q c.if-end-text.false c.refuse-then-size-ge-RECORDS.result c.if-size-ge-RECORDS.true c.refuse-then-size-ge-RECORDS.ensures
+pub returns-then-sum-ge-RECORDS : goal.returns-then-sum-ge-RECORDS
+returns-then-sum-ge-RECORDS c =
+    at_big c.args.text.now c.args.out.now c.if-text-gt-BYTES.false c.in_ok-end.ensures c.if-end-text.false c.if-sum-ge-RECORDS.true
 
-pub overflow_add-width : goal.overflow_add-width
-overflow_add-width c = let q = sym c.in-Ok.is ∙ c.alternatives-found.ensures in let g = far c.args.text.now 0 0 (omega arith) alts c.in-Ok.end c.in-Ok.sum q in omega arith
+pub overflow_add-sum : goal.overflow_add-sum
+overflow_add-sum c = let g = far c.args.text.now 0 0 (omega arith) alts c.in_ok-end.ensures in omega arith
 
-pub returns-then-out-width : goal.returns-then-out-width
-returns-then-out-width c = let q = sym c.in-Ok.is ∙ c.alternatives-found.ensures in at_small c.args.text.now c.args.out.now c.if-text-gt255.false c.in-Ok.end c.in-Ok.sum q c.if-end-text.false c.if-size-ge-RECORDS.false (read_sane c.args.text.now (λ i. (c.type_inv.text i).fits) alts 0 0 c.in-Ok.end (pat c.args.text.now c.args.out.now c.if-text-gt255.false c.in-Ok.end c.in-Ok.sum q) (inv (read c.args.text.now alts 0 0) q).is) c.refuse-then-out-width.result c.if-out-width.true c.refuse-then-out-width.ensures
+pub returns-then-out-sum : goal.returns-then-out-sum
+returns-then-out-sum c =
+    at_small c.args.text.now c.args.out.now c.if-text-gt-BYTES.false c.in_ok-end.ensures c.if-end-text.false c.if-sum-ge-RECORDS.false
+    (sane (goal.at.returns-then-out-sum c).Else-sum-ge-RECORDS) c.if-out-sum.true
 
-pub put_file-n-requires : goal.put_file-n-requires
-put_file-n-requires c = let q = sym c.in-Ok.is ∙ c.alternatives-found.ensures in (c.if-text-gt255.false, c.if-size-ge-RECORDS.false, room c.args.text.now c.args.out.now c.if-text-gt255.false c.in-Ok.end c.in-Ok.sum q c.if-end-text.false c.if-size-ge-RECORDS.false (read_sane c.args.text.now (λ i. (c.type_inv.text i).fits) alts 0 0 c.in-Ok.end (pat c.args.text.now c.args.out.now c.if-text-gt255.false c.in-Ok.end c.in-Ok.sum q) (inv (read c.args.text.now alts 0 0) q).is) c.if-out-width.false, room_end c.args.text.now c.args.out.now c.if-text-gt255.false c.in-Ok.end c.in-Ok.sum q c.if-end-text.false c.if-size-ge-RECORDS.false (read_sane c.args.text.now (λ i. (c.type_inv.text i).fits) alts 0 0 c.in-Ok.end (pat c.args.text.now c.args.out.now c.if-text-gt255.false c.in-Ok.end c.in-Ok.sum q) (inv (read c.args.text.now alts 0 0) q).is) c.if-out-width.false)
+pub put_file-requires : goal.put_file-requires
+put_file-requires c =
+    let s = sane (goal.at.put_file-requires c).Else-sum-ge-RECORDS in
+    let q = c.in_ok-end.ensures in (
+      c.if-text-gt-BYTES.false,
+      c.if-sum-ge-RECORDS.false,
+      room c.args.text.now c.args.out.now c.if-text-gt-BYTES.false q c.if-end-text.false c.if-sum-ge-RECORDS.false s c.if-out-sum.false,
+      room_end c.args.text.now c.args.out.now c.if-text-gt-BYTES.false q c.if-end-text.false c.if-sum-ge-RECORDS.false s c.if-out-sum.false,
+    )
 
-pub returns-in-Form : goal.returns-in-Form
-returns-in-Form c = at_form c.args.text.now c.args.out.now c.refuse-in-Form.result c.if-text-gt255.false c.in-Form.q (sym c.in-Form.is ∙ c.alternatives-found.ensures) c.refuse-in-Form.ensures
-
-pub returns-in-Deep : goal.returns-in-Deep
-returns-in-Deep c = at_deep c.args.text.now c.args.out.now c.refuse-in-Deep.result c.if-text-gt255.false c.in-Deep.q (sym c.in-Deep.is ∙ c.alternatives-found.ensures) c.refuse-in-Deep.ensures
-
-pub returns-else-out-width : goal.returns-else-out-width
-returns-else-out-width c = let q = sym c.in-Ok.is ∙ c.alternatives-found.ensures in at_ok c.args.text.now c.args.out.now c.if-text-gt255.false c.in-Ok.end c.in-Ok.sum q c.if-end-text.false c.if-size-ge-RECORDS.false (read_sane c.args.text.now (λ i. (c.type_inv.text i).fits) alts 0 0 c.in-Ok.end (pat c.args.text.now c.args.out.now c.if-text-gt255.false c.in-Ok.end c.in-Ok.sum q) (inv (read c.args.text.now alts 0 0) q).is) c.if-out-width.false _ c.put_file-n.result c.put_file-n.ensures
+pub returns : goal.returns
+returns c =
+    at_ok c.args.text.now c.args.out.now c.if-text-gt-BYTES.false c.in_ok-end.ensures c.if-end-text.false c.if-sum-ge-RECORDS.false
+    (sane (goal.at.returns c).Else-sum-ge-RECORDS) c.if-out-sum.false _ c.put_file.result c.put_file.ensures

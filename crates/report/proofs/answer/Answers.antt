@@ -15,7 +15,7 @@ returns-then-input-gt65536 c = wrote_front _ c.put_text.ensures (printed_over _ 
 pub put_made-requires : goal.put_made-requires
 put_made-requires c =
     let l : length c.args.out.now ≡ 4718643 = search rules in
-    record { room_in_bounds = (omega arith, c.if-input-gt65536.false); length_in_bounds = made_room _ _ c.pattern-made.ensures }
+    record { room_in_bounds = (omega arith, c.if-input-gt65536.false); length_in_bounds = made_room _ _ _ c.pattern-made.ensures }
 
 pub returns : goal.returns
 returns c = wrote_front _ c.put_made.ensures

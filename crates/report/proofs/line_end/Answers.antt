@@ -1,17 +1,15 @@
--- `report::line_end` meets its contract: what was passed is no byte 10. Assumes nothing.
-use native.Mathlib.Omega.{arith}
-use mathlib.Core.Path.{refl}
-use Rattle.report.proofs.Splitting.{ends_here, goes_past, ends_last}
+-- `report::line_end` meets its contract. Assumes nothing.
+use Rattle.std.proofs.Common.{◌∙◌, ◌+◌, ap, drop, eqb, length, length-drop, unwrap_or, rules, arith}
+use borrow.Author.Tests.{tests}
+use Rattle.std.proofs.lemmas.Iterator.{YieldsList-from_slice}
+use Rattle.std.proofs.lemmas.Iterator.Search.{position_from_yields_List}
+use Rattle.report.proofs.Splitting.{line_found, tail_all}
 use Rattle.report.proofs.line_end.Goals as goal
 
-pub loop-i-init : goal.loop-i-init
-loop-i-init c = (omega arith, (c.requires, refl))
-
-pub returns-then-s-i-eq10 : goal.returns-then-s-i-eq10
-returns-then-s-i-eq10 c = (omega (arith, ends_here c.args.s.now c.loop-i.i c.loop-i-test.true c.if-s-i-eq10.true), omega arith)
-
-pub loop-i-preserved : goal.loop-i-preserved
-loop-i-preserved c = (omega arith, (omega arith, omega (arith, goes_past c.args.s.now c.loop-i.i c.loop-i-test.true c.if-s-i-eq10.false)))
-
 pub returns : goal.returns
-returns c = (omega (arith, ends_last c.args.s.now c.loop-i.i c.loop-i-test.false), omega arith)
+returns c =
+    let rest = drop c.args.from c.args.s.now in
+    let all = tail_all c.args.s.now c.args.from in
+    let e = line_found rest _ (position_from_yields_List (λ b. eqb b 10) _ _ _ c.position.ensures.ran (YieldsList-from_slice rest (c.iter.ensures.rest ∙ all)) (λ x b q k. search (rules, tests))) in
+    let u = c.unwrap_or.ensures ∙ ap (λ t. unwrap_or c.position.result (length t)) all ∙ e.0 in
+    (ap (λ n. c.args.from + n) u, omega (arith, u, e.1, length-drop c.args.from c.args.s.now))

@@ -6,4 +6,4 @@ use Rattle.report.proofs.put_answer.Goals as goal
 
 pub returns : goal.returns
 unfolding answer_line
-returns c = (wrote_then c.put_number-first.ensures.0 (wrote_then c.put_places-end.ensures.0 c.put_byte.ensures), omega arith)
+returns c = let n = rw c.from.ensures at c.put_number-first.ensures.0 in (wrote_then n (wrote_then c.put_places-end.ensures.0 c.put_byte.ensures), omega arith)

@@ -6,4 +6,4 @@ use Rattle.report.proofs.put_refused.Goals as goal
 
 pub returns : goal.returns
 unfolding refused_line
-returns c = (wrote_then c.put_text-number.ensures (wrote_then c.put_number-end.ensures.0 c.put_byte.ensures), omega arith)
+returns c = let n = rw c.from.ensures at c.put_number-end.ensures.0 in (wrote_then c.put_text-number.ensures (wrote_then n c.put_byte.ensures), omega arith)

@@ -1,20 +1,14 @@
 -- `ride::ride` meets its contract. Assumes nothing.
 use mathlib.Core.Path.{◌∙◌}
-use Rattle.ride.proofs.Answering.{ridden_none, ridden_small, ridden_long, ridden_on}
-use Rattle.ride.proofs.Lines.{fits}
+use Rattle.ride.proofs.Answering.{ridden_unfit, mounted_long, mounted_on, mounted_same}
 use Rattle.ride.proofs.ride.Goals as goal
 
-pub returns-then-count-eq0 : goal.returns-then-count-eq0
-returns-then-count-eq0 c = c.refusal.ensures ∙ ridden_none _ _ _ c.sit_count-count.ensures.0 c.if-count-eq0.true
-
-pub returns-then-image-count : goal.returns-then-image-count
-returns-then-image-count c = c.refusal-then-image-count.ensures ∙ ridden_small _ _ _ c.sit_count-count.ensures.0 c.if-count-eq0.false c.if-image-count.true
+pub returns-in_default : goal.returns-in_default
+returns-in_default c = ridden_unfit _ _ _ c.in_default.ensures
 
 pub returns-then-line-gt-LINE_MAX : goal.returns-then-line-gt-LINE_MAX
-returns-then-line-gt-LINE_MAX c = c.refusal-then-line-gt-LINE_MAX.ensures ∙ ridden_long _ _ _ c.sit_count-count.ensures.0 c.if-count-eq0.false c.if-image-count.false c.if-line-gt-LINE_MAX.true
-
-pub ride_line-requires : goal.ride_line-requires
-ride_line-requires c = (fits c.sit_count-count.ensures c.if-count-eq0.false c.if-image-count.false, c.if-line-gt-LINE_MAX.false)
+returns-then-line-gt-LINE_MAX c =
+    mounted_long c.in-Some.mount.fits _ c.if-line-gt-LINE_MAX.true ∙ mounted_same c.in-Some.ensures _
 
 pub returns : goal.returns
-returns c = c.ride_line.ensures ∙ ridden_on _ _ _ c.sit_count-count.ensures.0 c.if-count-eq0.false c.if-image-count.false c.if-line-gt-LINE_MAX.false
+returns c = c.ride_line.ensures ∙ mounted_on c.in-Some.mount.fits _ c.if-line-gt-LINE_MAX.false ∙ mounted_same c.in-Some.ensures _

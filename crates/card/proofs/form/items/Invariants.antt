@@ -1,12 +1,11 @@
 -- `card::form::items` meets its contract: the invariant is `Passing`. Assumes nothing.
 use Prim.Native.Nat.{◌-◌}
-use mathlib.Core.Path.{◌≡◌}
 use lib.ListN.{length}
 use Rattle.card.proofs.Passing.{Passing}
 use Rattle.card.proofs.form.items.Given as goal
 
-abbrev pub invariant-loop-at : goal.invariant-loop-at
-invariant-loop-at l = Passing l.s l.h l.f l.at × (l.n ≡ length l.s)
+abbrev pub invariant-loop-f : goal.invariant-loop-f
+invariant-loop-f l = Passing l.s l.h l.f
 
-abbrev pub decreases-loop-at : goal.decreases-loop-at
-decreases-loop-at l = length l.s - l.at
+abbrev pub decreases-loop-f : goal.decreases-loop-f
+decreases-loop-f l = length l.s - l.f.at

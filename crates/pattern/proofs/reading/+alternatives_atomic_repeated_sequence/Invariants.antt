@@ -11,11 +11,11 @@ invariant-alternatives-loop-end l = Passed l.s alts l.depth l.at l.sum l.i
 abbrev pub decreases-alternatives-loop-end : goal.decreases-alternatives-loop-end
 decreases-alternatives-loop-end l = length l.s - l.i
 
-abbrev pub invariant-sequence-loop-sum : goal.invariant-sequence-loop-sum
-invariant-sequence-loop-sum l = Passed l.s seq l.depth l.at l.sum l.i
+abbrev pub invariant-sequence-loop-i : goal.invariant-sequence-loop-i
+invariant-sequence-loop-i l = Passed l.s seq l.depth l.at l.sum l.i
 
-abbrev pub decreases-sequence-loop-sum : goal.decreases-sequence-loop-sum
-decreases-sequence-loop-sum l = length l.s - l.i
+abbrev pub decreases-sequence-loop-i : goal.decreases-sequence-loop-i
+decreases-sequence-loop-i l = length l.s - l.i
 
 abbrev pub decreases-alternatives : goal.decreases-alternatives
 decreases-alternatives l = left l.s.now alts l.at

@@ -11,11 +11,11 @@ invariant-emit_alternatives-loop-end l = Sent l.s alts l.depth l.at l.n l.f l.o 
 abbrev pub decreases-emit_alternatives-loop-end : goal.decreases-emit_alternatives-loop-end
 decreases-emit_alternatives-loop-end l = length l.s - l.i
 
-abbrev pub invariant-emit_sequence-loop-at : goal.invariant-emit_sequence-loop-at
-invariant-emit_sequence-loop-at l = Sent l.s seq l.depth l.at l.n l.f l.o l.initial.out l.last l.i l.k l.p l.out
+abbrev pub invariant-emit_sequence-loop-end : goal.invariant-emit_sequence-loop-end
+invariant-emit_sequence-loop-end l = Sent l.s seq l.depth l.at l.n l.f l.o l.initial.out l.last l.i l.k l.p l.out
 
-abbrev pub decreases-emit_sequence-loop-at : goal.decreases-emit_sequence-loop-at
-decreases-emit_sequence-loop-at l = length l.s - l.i
+abbrev pub decreases-emit_sequence-loop-end : goal.decreases-emit_sequence-loop-end
+decreases-emit_sequence-loop-end l = length l.s - l.i
 
 abbrev pub decreases-emit_alternatives : goal.decreases-emit_alternatives
 decreases-emit_alternatives l = left l.s.now alts l.at

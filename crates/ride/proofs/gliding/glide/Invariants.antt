@@ -1,11 +1,6 @@
 -- `ride::gliding::glide` meets its contract: the invariant is `Reached`. Assumes nothing.
-use Prim.Native.Nat.{◌-◌}
-use lib.ListN.{length}
 use Rattle.ride.specs.Need.{Reached}
 use Rattle.ride.proofs.gliding.glide.Given as goal
 
 abbrev pub invariant-loop-place : goal.invariant-loop-place
 invariant-loop-place l = Reached l.image l.line l.limit l.from l.first l.initial.bank l.place l.row l.bank
-
-abbrev pub decreases-loop-place : goal.decreases-loop-place
-decreases-loop-place l = length l.line - l.place

@@ -1,6 +1,0 @@
--- `seq_sum` meets its contract. Assumes nothing.
-use Rattle.pattern.proofs.Sums.{topped}
-use Rattle.pattern.proofs.reading.seq_sum.Goals as goal
-
-pub returns : goal.returns
-returns c = topped _ _ _ _ c.larger.ensures

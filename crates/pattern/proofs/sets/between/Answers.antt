@@ -1,9 +1,0 @@
--- `between` meets its contract. Assumes nothing.
-use borrow.Author.Tests.{le-leb, lt-leb}
-use Rattle.pattern.proofs.sets.between.Goals as goal
-
-pub returns-then-a-b : goal.returns-then-a-b
-returns-then-a-b c = simp (le-leb _ _ c.if-a-b.true)
-
-pub returns : goal.returns
-returns c = simp (lt-leb _ _ c.if-a-b.false)

@@ -1,6 +1,0 @@
--- `report::put_byte` meets its contract. Assumes nothing.
-use Rattle.report.proofs.Writing.{wrote_byte}
-use Rattle.report.proofs.put_byte.Goals as goal
-
-pub returns : goal.returns
-returns c = wrote_byte _ _ _ c.requires
