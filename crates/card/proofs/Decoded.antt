@@ -10,7 +10,7 @@ use Rattle.ground.specs.Lists.{each}
 use Rattle.ground.specs.Pick.{pick}
 use Rattle.card.specs.Table.{Cmd, move, put, Row, Sit, Table, cmd_bytes, row_bytes, sit_bytes, bytes_of, Rising, Upward, FormedSits, Formed}
 use Rattle.card.specs.declared.Order.TheVariants.{Move, Put, Stop}
-use Rattle.card.specs.declared.RowItem.TheVariants.{Leads, Ends}
+use Rattle.std.specs.Prelude.{Some, None}
 use Rattle.card.specs.Decode.{cmd_at, cmds_at, after_at, row_at, rows_at, after_rows, sit_at, sits_from, table_at}
 use Rattle.ground.proofs.Lists.{byte_here, first_here, left_here, later_here}
 use Rattle.card.proofs.Laws.{cmds_step}
@@ -44,13 +44,13 @@ module _ (s : List ℕ) (at : ℕ) where
       let l = left_here s at e in
       simp (lt-leb (length s) at (omega arith), ne_eqb (get_or s at 0) 0x24 (λ h. omega (arith, first_here s at e)), ne_eqb (get_or s at 0) 0x25 (λ h. omega (arith, first_here s at e)))
 
-  line_here : (lo hi next : ℕ) (q : List ℕ) → drop at s ≡ 0x23 ∷ lo ∷ hi ∷ next ∷ q → row_at s at ≡ Leads lo hi next
+  line_here : (lo hi next : ℕ) (q : List ℕ) → drop at s ≡ 0x23 ∷ lo ∷ hi ∷ next ∷ q → row_at s at ≡ Some (lo, hi, next)
   unfolding pick row_at
   line_here lo hi next q e =
       let l = left_here s at e in
       simp (lt-leb (length s) at (omega arith), first_here s at e, le-ltb (length s - at) 4 (omega arith), byte_here s at e)
 
-  ends_here : (q : List ℕ) → drop at s ≡ q → Below 0x23 q → row_at s at ≡ Ends
+  ends_here : (q : List ℕ) → drop at s ≡ q → Below 0x23 q → row_at s at ≡ None
   unfolding pick row_at Below
   ends_here [] e b = let l = left_here s at e in simp (le-leb (length s) at (omega arith))
   ends_here (k ∷ q) e b =
@@ -96,7 +96,7 @@ module _ (s : List ℕ) (tags R N : ℕ) (few : R ≤ 64) where
       → (rows_at s at ≡ l) × (drop (after_rows s at) s ≡ q)
   rows_here [] lo at q u e b =
       let stop = ends_here s at q e b in
-      (rows_step s at Ends stop, ap (λ (n : ℕ). drop n s) (after_rows_step s at Ends stop) ∙ e)
+      (rows_step s at None stop, ap (λ (n : ℕ). drop n s) (after_rows_step s at None stop) ∙ e)
   rows_here (r ∷ l) lo at q u e b =
       let it = line_here s at r.lo r.hi r.next _ e in
       let cs = cmds_here r.cmds 0 (at + 4) (each row_bytes l ++ q) u.4 (later_here s at e 4 ∙ append_assoc (each cmd_bytes r.cmds) (each row_bytes l) q) (rows_quiet l q b) in

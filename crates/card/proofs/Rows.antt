@@ -11,8 +11,8 @@ use Rattle.card.specs.Table.{Row}
 use Rattle.card.specs.Run.{row_for, no_row}
 use Rattle.card.specs.declared.Order.{Order}
 use Rattle.card.specs.declared.Order.TheVariants.{Move, Put, Stop}
-use Rattle.card.specs.declared.RowItem.{RowItem}
-use Rattle.card.specs.declared.RowItem.TheVariants.{Leads, Ends}
+use Rattle.card.specs.Decode.{RowItem}
+use Rattle.std.specs.Prelude.{Some, None}
 use Rattle.ground.specs.Pick.{pick}
 use Rattle.card.specs.Decode.{cmd_at, cmds_at, past, after_n, after_at, row_at, row_then, rows_n, rows_at}
 use Rattle.card.proofs.Laws.{at_end}
@@ -50,19 +50,19 @@ after_ge s (suc n) at = past_ge (cmd_at s at) at _ (λ d. after_ge s n (at + d))
 -- ---- the rows
 
 Whole : List ℕ → ℕ → RowItem → Type 0
-Whole s at (Leads lo hi next) = at + 4 ≤ length s
-Whole s at Ends = Unit {0}
+Whole s at (Some (lo, hi, next)) = at + 4 ≤ length s
+Whole s at None = Unit {0}
 
 by_test : (s : List ℕ) (at : ℕ) (b : Bool) (x y : RowItem) → (b ≡ true → Whole s at x) → (b ≡ false → Whole s at y) → Whole s at (pick b x y)
 unfolding pick
 by_test s at true x y f g = f refl
 by_test s at false x y f g = g refl
 
-ends_whole : (s : List ℕ) (at : ℕ) → Whole s at Ends
+ends_whole : (s : List ℕ) (at : ℕ) → Whole s at None
 unfolding Whole
 ends_whole s at = tt
 
-line_whole : (s : List ℕ) (at lo hi next : ℕ) → leb (length s) at ≡ false → ltb (length s - at) 4 ≡ false → Whole s at (Leads lo hi next)
+line_whole : (s : List ℕ) (at lo hi next : ℕ) → leb (length s) at ≡ false → ltb (length s - at) 4 ≡ false → Whole s at (Some (lo, hi, next))
 unfolding Whole
 line_whole s at lo hi next a b =
     let a' = leb-false (length s) at a in
@@ -75,11 +75,11 @@ whole s at =
     by_test s at _ _ _ (λ _. ends_whole s at) (λ a.
     by_test s at _ _ _ (λ _. by_test s at _ _ _ (λ _. ends_whole s at) (λ b. line_whole s at _ _ _ a b)) (λ _. ends_whole s at))
 
-pub row_whole : (s : List ℕ) (at lo hi next : ℕ) → row_at s at ≡ Leads lo hi next → at + 4 ≤ length s
+pub row_whole : (s : List ℕ) (at lo hi next : ℕ) → row_at s at ≡ Some (lo, hi, next) → at + 4 ≤ length s
 unfolding Whole
 row_whole s at lo hi next e = subst (Whole s at) e (whole s at)
 
-pub no_line : (s : List ℕ) (at : ℕ) → length s ≤ at → row_at s at ≡ Ends
+pub no_line : (s : List ℕ) (at : ℕ) → length s ≤ at → row_at s at ≡ None
 unfolding pick row_at
 no_line s at l = simp (le-leb _ _ l)
 
@@ -99,16 +99,16 @@ rows_step s at x e =
     ∙ ap (λ (y : RowItem). row_then y (cmds_at s (at + 4)) (rows_n (length s) s (after_at s (at + 4)))) e
 
 module _ (s : List ℕ) (i b : ℕ) where
-  pub row_ends : row_at s i ≡ Ends → no_row ≡ row_for (rows_at s i) b
+  pub row_ends : row_at s i ≡ None → no_row ≡ row_for (rows_at s i) b
   unfolding row_for
-  row_ends e = sym (ap (λ (l : List Row). row_for l b) (rows_step s i Ends e))
+  row_ends e = sym (ap (λ (l : List Row). row_for l b) (rows_step s i None e))
 
-  module _ (lo hi next : ℕ) (e : row_at s i ≡ Leads lo hi next) where
+  module _ (lo hi next : ℕ) (e : row_at s i ≡ Some (lo, hi, next)) where
     opened : (t : Bool) → leb b hi ≡ t → row_for (rows_at s i) b
         ≡ pick t (record { lo = lo; hi = hi; next = next; cmds = cmds_at s (i + 4) }) (row_for (rows_at s (after_at s (i + 4))) b)
     unfolding row_for
     opened t h =
-        ap (λ (l : List Row). row_for l b) (rows_step s i (Leads lo hi next) e)
+        ap (λ (l : List Row). row_for l b) (rows_step s i (Some (lo, hi, next)) e)
         ∙ ap (λ (x : Bool). pick x (record { lo = lo; hi = hi; next = next; cmds = cmds_at s (i + 4) }) (row_for (rows_at s (after_at s (i + 4))) b)) h
 
     pub row_here : b ≤ hi → record { lo = lo; hi = hi; next = next; cmds = cmds_at s (i + 4) } ≡ row_for (rows_at s i) b

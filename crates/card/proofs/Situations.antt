@@ -10,8 +10,8 @@ use Rattle.card.specs.Table.{Sit}
 use Rattle.card.specs.Run.{sit, no_sit}
 use Rattle.card.specs.declared.Order.{Order}
 use Rattle.card.specs.declared.Order.TheVariants.{Move, Put, Stop}
-use Rattle.card.specs.declared.RowItem.{RowItem}
-use Rattle.card.specs.declared.RowItem.TheVariants.{Leads, Ends}
+use Rattle.card.specs.Decode.{RowItem}
+use Rattle.std.specs.Prelude.{Some, None}
 use Rattle.card.specs.Decode.{cmd_at, past, after_n, after_at, row_at, past_row, after_rows_n, after_rows, sit_at, sits_from, places_from, table_at, places_of}
 use Rattle.card.specs.Places.{noted}
 use Rattle.card.proofs.Laws.{move_facts, put_facts}
@@ -52,8 +52,8 @@ module _ (s : List ℕ) (top : ℕ) (l : length s ≤ top) where
   after_most at a = after_n_most (length s) at a
 
   rows_most : (x : RowItem) (at m : ℕ) → row_at s at ≡ x → at ≤ top → (at + 4 ≤ top → m ≤ top) → past_row x at m ≤ top
-  rows_most (Leads lo hi next) at m e a h = let w = row_whole s at lo hi next e in h (omega arith)
-  rows_most Ends at m e a h = a
+  rows_most (Some (lo, hi, next)) at m e a h = let w = row_whole s at lo hi next e in h (omega arith)
+  rows_most None at m e a h = a
 
   after_rows_n_most : (n at : ℕ) → at ≤ top → after_rows_n n s at ≤ top
   unfolding after_rows_n

@@ -5,8 +5,7 @@ use Rattle.ground.specs.Pick.{pick}
 use Rattle.card.specs.Table.{Cmd, move, put, Row, Sit, Table}
 use Rattle.card.specs.declared.Order.{Order}
 use Rattle.card.specs.declared.Order.TheVariants.{Move, Put, Stop}
-use Rattle.card.specs.declared.RowItem.{RowItem}
-use Rattle.card.specs.declared.RowItem.TheVariants.{Leads, Ends}
+use Rattle.std.specs.Prelude.{Option, Some, None}
 
 -- ---- commands
 
@@ -52,17 +51,21 @@ after_at s at = after_n (length s) s at
 
 -- ---- rows
 
+-- its bytes from and to, and where it leads
+abbrev pub RowItem : Type 0
+RowItem = Option (ℕ × ℕ × ℕ)
+
 unfoldable pub row_at : List ℕ → ℕ → RowItem
 row_at s at =
-    pick (leb (length s) at) Ends
+    pick (leb (length s) at) None
     (pick (eqb (get_or s at 0) 0x23)
-    (pick (ltb (length s - at) 4) Ends
-    (Leads (get_or s (at + 1) 0) (get_or s (at + 2) 0) (get_or s (at + 3) 0)))
-    Ends)
+    (pick (ltb (length s - at) 4) None
+    (Some (get_or s (at + 1) 0, get_or s (at + 2) 0, get_or s (at + 3) 0)))
+    None)
 
 abbrev pub row_then : RowItem → List Cmd → List Row → List Row
-row_then (Leads lo hi next) cmds more = record { lo = lo; hi = hi; next = next; cmds = cmds } ∷ more
-row_then Ends cmds more = []
+row_then (Some (lo, hi, next)) cmds more = record { lo = lo; hi = hi; next = next; cmds = cmds } ∷ more
+row_then None cmds more = []
 
 unfoldable pub rows_n : ℕ → List ℕ → ℕ → List Row
 rows_n zero s at = []
@@ -73,8 +76,8 @@ rows_at s at = rows_n (length s) s at
 
 -- the place after the rows at a place
 abbrev pub past_row : RowItem → ℕ → ℕ → ℕ
-past_row (Leads lo hi next) at more = more
-past_row Ends at more = at
+past_row (Some (lo, hi, next)) at more = more
+past_row None at more = at
 
 unfoldable pub after_rows_n : ℕ → List ℕ → ℕ → ℕ
 after_rows_n zero s at = at

@@ -29,13 +29,6 @@ pub enum Order {
     Stop,
 }
 
-// The ROW at a place: the bytes from and to, and where it leads.
-#[derive(Clone, Copy)]
-pub enum RowItem {
-    Leads(u8, u8, u8),
-    Ends,
-}
-
 #[tactic(auto, using(std::proofs::lemmas::Bool::Decides::nat_tests), unfolding(ground::specs::Pick::pick, crate::specs::Decode::cmd_at))]
 pub fn read_cmd(s: &[u8], at: usize) -> Order
     ensures { result ≡ cmd_at s.now at }
@@ -55,15 +48,16 @@ pub fn read_cmd(s: &[u8], at: usize) -> Order
     }
 }
 
+// The ROW at a place: the bytes from and to, and where it leads.
 #[tactic(auto, using(std::proofs::lemmas::Bool::Decides::nat_tests), unfolding(ground::specs::Pick::pick, crate::specs::Decode::row_at))]
-pub fn read_row(s: &[u8], at: usize) -> RowItem
+pub fn read_row(s: &[u8], at: usize) -> Option<(u8, u8, u8)>
     ensures { result ≡ row_at s.now at }
 {
     // By index, as in `read_cmd`.
     if at < s.len() && s[at] == ROW && 4 <= s.len() - at {
-        return RowItem::Leads(s[at + 1], s[at + 2], s[at + 3]);
+        return Some((s[at + 1], s[at + 2], s[at + 3]));
     }
-    RowItem::Ends
+    None
 }
 
 // The place after the commands at a place.
@@ -89,7 +83,7 @@ pub fn skip_rows(s: &[u8], at: usize) -> usize
 {
     let mut i = at;
     // A loop: rows differ in length, so the next place is known only after the row's commands.
-    while let RowItem::Leads(_, _, _) = read_row(s, i) {
+    while let Some((_, _, _)) = read_row(s, i) {
         i = skip_cmds(s, i + 4);
     }
     i

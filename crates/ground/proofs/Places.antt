@@ -66,10 +66,7 @@ pub at_last : place_of (pos place_max) ≡ Some 32767
 unfolding place_of
 at_last = refl
 
--- a second result that meets the promise of `wide`, of `held` or of `place_of` is equal
-pub one_wide : (x : ℕ) {n m : ℕ} → n ≡ x → m ≡ x → n ≡ m
-one_wide x e f = e ∙ sym f
-
+-- a second result that meets the promise of `held` or of `place_of` is equal
 pub one_held : (place : ℕ) {v w : ℤ} → v ≡ pos place → w ≡ pos place → v ≡ w
 one_held place e f = e ∙ sym f
 

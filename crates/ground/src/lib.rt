@@ -4,13 +4,6 @@
 ghost use Rattle.std.specs.Prelude.{◌≡◌, ◌≤◌, pos};
 ghost use Rattle.ground.specs.Place.{place_max, place_of};
 
-// A byte as an index.
-pub fn wide(x: u8) -> usize
-    ensures { result ≡ x }
-{
-    usize::from(x)
-}
-
 // A place as a position. The cast loses nothing, at 32767 either. That the place is no larger is shown by whoever counted to it.
 pub fn held(place: usize) -> i16
     requires { place ≤ place_max }

@@ -12,8 +12,8 @@ use Rattle.ground.proofs.Picks.{picked, passed, pick_lt, pick_not_lt}
 use Rattle.card.specs.Table.{Cmd, move, put}
 use Rattle.card.specs.Decode.{cmd_at, cmds_at, row_at}
 use Rattle.card.specs.declared.Order.TheVariants.{Move, Put, Stop}
-use Rattle.card.specs.declared.RowItem.{RowItem}
-use Rattle.card.specs.declared.RowItem.TheVariants.{Leads, Ends}
+use Rattle.card.specs.Decode.{RowItem}
+use Rattle.std.specs.Prelude.{Some, None}
 use Rattle.card.proofs.Laws.{cmds_step}
 use Rattle.run.specs.Carry.{Alone}
 use Rattle.image.specs.Need.{stretch_of, on_with, Stretched, Begins, Sorted}
@@ -118,15 +118,15 @@ kind_few (c ∷ l) = kind_of_tests (is_block (c ∷ l)) (ltb (of_list block_bits
 -- ---- the entry of the row at a place
 
 module _ (s : List ℕ) (at : ℕ) where
-  pub entry_ends : row_at s at ≡ Ends → 64 ≡ entry_at s at
+  pub entry_ends : row_at s at ≡ None → 64 ≡ entry_at s at
   unfolding entry_at
   entry_ends e = sym (ap (λ (x : RowItem). row_entry x (cmds_at s (at + 4)) (at + 4)) e)
 
-  pub entry_leads : (lo hi next : ℕ) → row_at s at ≡ Leads lo hi next
+  pub entry_leads : (lo hi next : ℕ) → row_at s at ≡ Some (lo, hi, next)
       → entry next (list_kind (cmds_at s (at + 4))) (points (cmds_at s (at + 4)) (at + 4)) ≡ entry_at s at
   unfolding entry_at
   entry_leads lo hi next e = sym (ap (λ (x : RowItem). row_entry x (cmds_at s (at + 4)) (at + 4)) e)
 
-  pub entry_sorted : (lo hi next : ℕ) → row_at s at ≡ Leads lo hi next → (k n : ℕ) → k ≡ list_kind (cmds_at s (at + 4)) → n ≡ points (cmds_at s (at + 4)) (at + 4)
+  pub entry_sorted : (lo hi next : ℕ) → row_at s at ≡ Some (lo, hi, next) → (k n : ℕ) → k ≡ list_kind (cmds_at s (at + 4)) → n ≡ points (cmds_at s (at + 4)) (at + 4)
       → entry next k n ≡ entry_at s at
   entry_sorted lo hi next e k n f g = ap₂ (entry next) f g ∙ entry_leads lo hi next e

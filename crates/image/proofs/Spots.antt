@@ -9,8 +9,8 @@ use lib.Dec.{leb}
 use borrow.Author.Tests.{le-leb, lt-leb, leb-true, leb-false}
 use Rattle.ground.specs.Pick.{pick}
 use Rattle.card.specs.Decode.{after_at, row_at}
-use Rattle.card.specs.declared.RowItem.{RowItem}
-use Rattle.card.specs.declared.RowItem.TheVariants.{Leads, Ends}
+use Rattle.card.specs.Decode.{RowItem}
+use Rattle.std.specs.Prelude.{Some, None}
 use Rattle.card.proofs.Rows.{after_ge, no_line}
 use Rattle.run.proofs.Carrying.{row_whole_here}
 use Rattle.std.proofs.lemmas.Bool.Decides.{nat_tests}
@@ -36,20 +36,20 @@ module _ (s : List ℕ) (b : ℕ) where
       spot_fuel (length s) (suc (length s)) at (omega arith) (omega arith)
       ∙ ap (λ (y : RowItem). spot_of y (length s) b at (spot_n (length s) s (after_at s (at + 4)) b)) e
 
-  pub spot_ends : (at : ℕ) → row_at s at ≡ Ends → spot_at s at b ≡ length s
-  spot_ends at e = spot_step at Ends e
+  pub spot_ends : (at : ℕ) → row_at s at ≡ None → spot_at s at b ≡ length s
+  spot_ends at e = spot_step at None e
 
-  module _ (at lo hi next : ℕ) (e : row_at s at ≡ Leads lo hi next) where
+  module _ (at lo hi next : ℕ) (e : row_at s at ≡ Some (lo, hi, next)) where
     pub spot_here : b ≤ hi → spot_at s at b ≡ at
     unfolding pick
     spot_here l =
-        spot_step at (Leads lo hi next) e
+        spot_step at (Some (lo, hi, next)) e
         ∙ ap (λ (t : Bool). pick t at (spot_at s (after_at s (at + 4)) b)) (le-leb b hi l)
 
     pub spot_later : hi < b → spot_at s at b ≡ spot_at s (after_at s (at + 4)) b
     unfolding pick
     spot_later l =
-        spot_step at (Leads lo hi next) e
+        spot_step at (Some (lo, hi, next)) e
         ∙ ap (λ (t : Bool). pick t at (spot_at s (after_at s (at + 4)) b)) (lt-leb b hi l)
 
 -- a byte's row, from the row at a place
@@ -64,13 +64,13 @@ module _ (s : List ℕ) (b d : ℕ) (l : b ≤ d) where
   Same : ℕ → Type 0
   Same at = spot_at s (spot_at s at b) d ≡ spot_at s at d
 
-  none_left : (at : ℕ) → row_at s at ≡ Ends → Same at
+  none_left : (at : ℕ) → row_at s at ≡ None → Same at
   unfolding Same
   none_left at e =
       ap (λ (k : ℕ). spot_at s k d) (spot_ends s b at e)
       ∙ spot_ends s d (length s) (no_line s (length s) (omega arith)) ∙ sym (spot_ends s d at e)
 
-  at_row : (at lo hi next : ℕ) → row_at s at ≡ Leads lo hi next → Same (after_at s (at + 4)) → (t : Bool) → leb b hi ≡ t → Same at
+  at_row : (at lo hi next : ℕ) → row_at s at ≡ Some (lo, hi, next) → Same (after_at s (at + 4)) → (t : Bool) → leb b hi ≡ t → Same at
   unfolding Same
   at_row at lo hi next e more true k = ap (λ (j : ℕ). spot_at s j d) (spot_here s b at lo hi next e (leb-true b hi k))
   at_row at lo hi next e more false k =
@@ -78,8 +78,8 @@ module _ (s : List ℕ) (b d : ℕ) (l : b ≤ d) where
       ap (λ (j : ℕ). spot_at s j d) (spot_later s b at lo hi next e m) ∙ more ∙ sym (spot_later s d at lo hi next e (omega arith))
 
   at_item : (at : ℕ) (x : RowItem) → row_at s at ≡ x → Same (after_at s (at + 4)) → Same at
-  at_item at Ends e more = none_left at e
-  at_item at (Leads lo hi next) e more = at_row at lo hi next e more (leb b hi) refl
+  at_item at None e more = none_left at e
+  at_item at (Some (lo, hi, next)) e more = at_row at lo hi next e more (leb b hi) refl
 
   from : (n at : ℕ) → length s ≤ at + n → Same at
   from zero at h = none_left at (no_line s at (omega arith))

@@ -4,8 +4,8 @@ use Rattle.ground.specs.Pick.{pick}
 use Rattle.card.specs.Table.{Cmd, move, put}
 use Rattle.card.specs.Decode.{cmds_at, after_at, row_at, places_of}
 use Rattle.card.specs.Judged.{Judged}
-use Rattle.card.specs.declared.RowItem.{RowItem}
-use Rattle.card.specs.declared.RowItem.TheVariants.{Leads, Ends}
+use Rattle.card.specs.Decode.{RowItem}
+use Rattle.std.specs.Prelude.{Some, None}
 
 -- ---- an entry of 32 bits: the two highest are its kind, bits 8 to 14 the next situation, so that the place of its row is in them as it stands.
 -- The 8 below and the 15 between are a number: of kind 0 a register or none, else the list's place in the table or a block's numbers
@@ -117,8 +117,8 @@ points (c ∷ l) at = pick (is_block (c ∷ l)) (of_list block_bits (c ∷ l)) a
 -- ---- the place of a byte's row among the rows at a place: the first that ends at or after the byte; the table's end if there is none
 
 abbrev pub spot_of : RowItem → (end b at later : ℕ) → ℕ
-spot_of (Leads lo hi next) end b at later = pick (leb b hi) at later
-spot_of Ends end b at later = end
+spot_of (Some (lo, hi, next)) end b at later = pick (leb b hi) at later
+spot_of None end b at later = end
 
 unfoldable pub spot_n : ℕ → List ℕ → (at b : ℕ) → ℕ
 spot_n zero s at b = length s
@@ -130,8 +130,8 @@ spot_at s at b = spot_n (length s) s at b
 -- ---- the entry of the row at a place
 
 abbrev pub row_entry : RowItem → List Cmd → ℕ → ℕ
-row_entry (Leads lo hi next) l at = entry next (list_kind l) (points l at)
-row_entry Ends l at = 64
+row_entry (Some (lo, hi, next)) l at = entry next (list_kind l) (points l at)
+row_entry None l at = 64
 
 unfoldable pub entry_at : List ℕ → ℕ → ℕ
 entry_at s at = row_entry (row_at s at) (cmds_at s (at + 4)) (at + 4)

@@ -9,7 +9,6 @@ ghost use Rattle.answers.specs.Refusals.{number_of};
 ghost use Rattle.image.specs.Need.{kind_number, RowImaged, Mountable};
 
 use answers::Refusal;
-use card::RowItem;
 use sorts::Sort;
 
 // Entries of a situation, and with its place its words.
@@ -55,7 +54,7 @@ fn row_spot(s: &[u8], at: usize, b: usize) -> usize
 {
     let mut i = at;
     // A loop: rows differ in length, so the next place is known only after the row's commands.
-    while let RowItem::Leads(_, hi, _) = card::read_row(s, i) {
+    while let Some((_, hi, _)) = card::read_row(s, i) {
         if b <= usize::from(hi) {
             return i;
         }
@@ -69,7 +68,7 @@ fn row_spot(s: &[u8], at: usize, b: usize) -> usize
 fn entry_at(s: &[u8], at: usize) -> u32
     ensures { result ≡ entry_at s.now at }
 {
-    let RowItem::Leads(_, _, next) = card::read_row(s, at) else {
+    let Some((_, _, next)) = card::read_row(s, at) else {
         return NO_ROW;
     };
     packed(next, sorts::list_sort(s, at + CMDS))

@@ -7,7 +7,7 @@ use lib.ListN.{get_or, set}
 use Rattle.card.specs.Table.{Row}
 use Rattle.card.specs.Run.{In, sit}
 use Rattle.card.specs.Decode.{row_at, rows_at, table_at}
-use Rattle.card.specs.declared.RowItem.TheVariants.{Leads, Ends}
+use Rattle.std.specs.Prelude.{Some, None}
 use Rattle.loader.specs.Flow.{written, flow, Spread, Words, Pass, Flowed, Listed, RowsOf}
 use Rattle.loader.proofs.Passes.{none, then, spread_keeps, row_spread, row_pass}
 use Rattle.loader.proofs.Walk.{row_of, Back, Done, row_in, back_next, done_next, all_done}
@@ -22,13 +22,13 @@ pub flowing_none : (s : List ℕ) (at q : ℕ) (may : List ℕ) → Words may �
 flowing_none s at q may w = record { back = λ x k. k; pass = none w; done = λ x k. inl k }
 
 module _ {s : List ℕ} {at q : ℕ} {may m : List ℕ} {i : ℕ} (f : Flowing s at q may m i) where
-  pub flowing_end : row_at s i ≡ Ends → Flowed s at q may m
+  pub flowing_end : row_at s i ≡ None → Flowed s at q may m
   flowing_end e = record { pass = f.pass; spread = all_done s at i e f.done }
 
-  pub flowing_in : RowsOf s at q → {lo hi next : ℕ} → row_at s i ≡ Leads lo hi next → next < 96
+  pub flowing_in : RowsOf s at q → {lo hi next : ℕ} → row_at s i ≡ Some (lo, hi, next) → next < 96
   flowing_in rows e = rows.leads _ (row_in s at i e f.back)
 
-  pub flowing_on : RowsOf s at q → Words may → {lo hi next : ℕ} → row_at s i ≡ Leads lo hi next → {k rd j : ℕ} → Listed s (i + 4) k rd j → k < 2 ^ 64
+  pub flowing_on : RowsOf s at q → Words may → {lo hi next : ℕ} → row_at s i ≡ Some (lo, hi, next) → {k rd j : ℕ} → Listed s (i + 4) k rd j → k < 2 ^ 64
       → (v : ℕ) → v ≡ flow (get_or m next 0) (get_or may q 0) k → Flowing s at q may (set m next v) j
   flowing_on rows words {lo} {hi} {next} e {k} {rd} {j} l w v ev = record {
     back = back_next s at i e j l.end f.back;

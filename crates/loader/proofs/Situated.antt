@@ -9,8 +9,8 @@ use lib.ListN.{length, get_or, take, drop, get_or-eq_default}
 use Rattle.card.specs.Table.{Row, Sit, Table, Upward}
 use Rattle.card.specs.Run.{In, sit, no_sit}
 use Rattle.card.specs.Decode.{cmds_at, row_at, rows_at, after_at, sit_at, table_at}
-use Rattle.card.specs.declared.RowItem.{RowItem}
-use Rattle.card.specs.declared.RowItem.TheVariants.{Leads, Ends}
+use Rattle.card.specs.Decode.{RowItem}
+use Rattle.std.specs.Prelude.{Some, None}
 use Rattle.card.proofs.Rows.{rows_step, row_whole}
 use Rattle.card.proofs.Situations.{sits_length, table_sit}
 use Rattle.loader.specs.Flow.{Loud, row, end, RowsOf, Ready, RowAsks, FieldAsks, Reads, written, flow, start_set}
@@ -38,8 +38,8 @@ rows_room : (s : List ℕ) (at : ℕ) → (rows_at s at ≡ [] → ⊥) → at +
 rows_room s at n = by (row_at s at) refl
   where
     by : (x : RowItem) → row_at s at ≡ x → at + 4 ≤ length s
-    by (Leads lo hi next) e = row_whole s at lo hi next e
-    by Ends e = absurd (n (rows_step s at Ends e))
+    by (Some (lo, hi, next)) e = row_whole s at lo hi next e
+    by None e = absurd (n (rows_step s at None e))
 
 module _ {s places : List ℕ} (ready : Ready s places) where
   pub sit_here : {q : ℕ} → q < get_or s 4 0 → sit (table_at s) q ≡ sit_at s (get_or places q 0)

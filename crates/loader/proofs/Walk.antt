@@ -11,7 +11,7 @@ use lib.Bits.{bit_and}
 use Rattle.card.specs.Table.{Cmd, Row}
 use Rattle.card.specs.Run.{In, hd, tl}
 use Rattle.card.specs.Decode.{cmds_at, after_at, row_at, rows_at}
-use Rattle.card.specs.declared.RowItem.TheVariants.{Leads, Ends}
+use Rattle.std.specs.Prelude.{Some, None}
 use Rattle.card.proofs.Rows.{rows_step}
 use lib.Dec.{ltb, eqb}
 use Rattle.std.specs.List.{list_any}
@@ -39,12 +39,12 @@ in_cons hd = inl refl
 in_cons (tl i) = inr i
 
 module _ (s : List ℕ) (at i : ℕ) where
-  module _ {lo hi next : ℕ} (e : row_at s i ≡ Leads lo hi next) where
+  module _ {lo hi next : ℕ} (e : row_at s i ≡ Some (lo, hi, next)) where
     step_in : {x : Row} → In x (rows_at s i) → (row_of s i lo hi next ≡ x) ⊎ In x (rows_at s (after_at s (i + 4)))
-    step_in {x} j = in_cons (subst (λ (l : List Row). In x l) (rows_step s i (Leads lo hi next) e) j)
+    step_in {x} j = in_cons (subst (λ (l : List Row). In x l) (rows_step s i (Some (lo, hi, next)) e) j)
 
     in_step : {x : Row} → In x (row_of s i lo hi next ∷ rows_at s (after_at s (i + 4))) → In x (rows_at s i)
-    in_step {x} j = subst (λ (l : List Row). In x l) (sym (rows_step s i (Leads lo hi next) e)) j
+    in_step {x} j = subst (λ (l : List Row). In x l) (sym (rows_step s i (Some (lo, hi, next)) e)) j
 
     pub row_in : Back s at i → In (row_of s i lo hi next) (rows_at s at)
     row_in b = b (row_of s i lo hi next) (in_step hd)
@@ -60,9 +60,9 @@ module _ (s : List ℕ) (at i : ℕ) where
         by (inl h) =
             ⊎_elim (λ (y : row_of s i lo hi next ≡ x). inr (subst P y p)) (λ (y : In x (rows_at s (after_at s (i + 4)))). inl (subst (λ (n : ℕ). In x (rows_at s n)) (sym a) y)) (step_in h)
 
-  pub all_done : row_at s i ≡ Ends → {P : Row → Type 0} → Done s at i P → (x : Row) → In x (rows_at s at) → P x
+  pub all_done : row_at s i ≡ None → {P : Row → Type 0} → Done s at i P → (x : Row) → In x (rows_at s at) → P x
   all_done e {P} d x k =
-      ⊎_elim (λ (h : In x (rows_at s i)). absurd (not_in (subst (λ (l : List Row). In x l) (rows_step s i Ends e) h))) (λ (h : P x). h) (d x k)
+      ⊎_elim (λ (h : In x (rows_at s i)). absurd (not_in (subst (λ (l : List Row). In x l) (rows_step s i None e) h))) (λ (h : P x). h) (d x k)
 
 -- ---- the sources of a row
 
@@ -86,7 +86,7 @@ module _ (m : ℕ) (l : List Cmd) (a : ℕ) (e : a ≡ asked 0 l) where
         ),
       )
 
-pub no_asks : (s : List ℕ) (at m i : ℕ) → row_at s i ≡ Ends → Done s at i (Unasked m) → RowAsks s at m → ⊥
+pub no_asks : (s : List ℕ) (at m i : ℕ) → row_at s i ≡ None → Done s at i (Unasked m) → RowAsks s at m → ⊥
 no_asks s at m i e d a = all_done s at i e d a.0 a.1.0 a.1.1.0 a.1.1.1.0 a.1.1.1.1
 
 -- ---- the fields

@@ -10,7 +10,7 @@ ghost use Rattle.ground.specs.Bits.{bit_of};
 ghost use Rattle.answers.specs.Refusals.{code_of, number_of};
 
 use answers::Refusal;
-use card::{Order, RowItem};
+use card::Order;
 
 // A list of commands in short: the registers that it writes, those that it reads, and the place after it.
 #[derive(Clone, Copy)]
@@ -80,8 +80,8 @@ fn flow_rows(s: &[u8], at: usize, q: usize, may: &mut [u64; 96])
 {
     let x = may[q];
     let mut i = at;
-    // A loop here and in `rows_ask`: rows differ in length, so the next place is known only after the row's commands.
-    while let RowItem::Leads(_, _, next) = card::read_row(s, i) {
+    // A loop: rows differ in length, so the next place is known only after the row's commands.
+    while let Some((_, _, next)) = card::read_row(s, i) {
         let g = list_at(s, i + 4);
         let n = usize::from(next);
         may[n] = flowed(may[n], x, g.writes);
@@ -126,7 +126,8 @@ fn rows_ask(s: &[u8], at: usize, m: u64) -> bool
     ensures { Says (RowAsks s.now at m) result }
 {
     let mut i = at;
-    while let RowItem::Leads(_, _, _) = card::read_row(s, i) {
+    // A loop: rows differ in length, so the next place is known only after the row's commands.
+    while let Some((_, _, _)) = card::read_row(s, i) {
         let g = list_at(s, i + 4);
         if g.reads & m != 0 {
             return true;

@@ -136,6 +136,7 @@ pub fn alternatives(s: &[u8], at: usize, depth: usize) -> Read
 {
     let mut sum = Sum::NONE;
     let mut i = at;
+    // A loop: alternatives differ in length, so the next place is known only after the alternative.
     loop {
         let (end, more) = sequence(s, i, depth)?;
         if byte_at(s, end) != Some(b'|') {
@@ -156,6 +157,7 @@ pub fn sequence(s: &[u8], at: usize, depth: usize) -> Read
 {
     let mut sum = Sum::NONE;
     let mut i = at;
+    // A loop: atoms differ in length, so the next place is known only after the atom.
     while !stops_at(byte_at(s, i)) {
         let (end, more) = repeated(s, i, depth)?;
         sum = sum.then(more);

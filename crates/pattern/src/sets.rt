@@ -142,7 +142,7 @@ fn names_on(s: &[u8], from: usize, i: usize) -> Option<Stand>
     }
 }
 
-// Where the byte at i leads, if a set goes on so.
+// Where the byte at i leads, if a set goes on so. The place and where the text stands are no struct: each step has others.
 fn step_on(s: &[u8], i: usize, st: Stand) -> Option<Stand>
     requires { (i < length s.now) × Sound i st }
     ensures { Stepped s.now i (set_on (stands s.now i st) (get_or s.now i 0)) result }

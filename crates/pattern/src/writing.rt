@@ -118,6 +118,7 @@ fn put_atom(s: &[u8], at: usize, a: Atom, out: &mut [u8], o: usize, next: usize)
     }
 }
 
+// Here and below: what a writer is given is no struct, since each call has another place, depth, number and follower.
 // Alternatives: the first record has number n and stands at o, and f is what follows. They are measured as a whole first: so none is
 // refused in the loop, and `last` tells whether records are left.
 #[cycle(emit_alternatives_emit_atomic_emit_repeated_emit_sequence)]
@@ -140,6 +141,7 @@ fn emit_alternatives(
     let mut i = at;
     let mut k = n;
     let mut p = o;
+    // A loop: alternatives differ in length, so the next place is known only after the alternative.
     loop {
         let Ok((end, more)) = sequence(s, i, depth) else {
             return p;
@@ -179,6 +181,7 @@ fn emit_sequence(
     let mut i = at;
     let mut k = n;
     let mut p = o;
+    // A loop: atoms differ in length, so the next place is known only after the atom.
     while !stops_at(byte_at(s, i)) {
         let Ok((end, more)) = repeated(s, i, depth) else {
             return p;

@@ -12,8 +12,8 @@ use Rattle.ground.specs.Pick.{pick}
 use Rattle.card.specs.Table.{Cmd, move, put, Row, Sets}
 use Rattle.card.specs.Run.{row_for, no_row}
 use Rattle.card.specs.Decode.{cmds_at, after_at, row_at, rows_at}
-use Rattle.card.specs.declared.RowItem.{RowItem}
-use Rattle.card.specs.declared.RowItem.TheVariants.{Leads, Ends}
+use Rattle.card.specs.Decode.{RowItem}
+use Rattle.std.specs.Prelude.{Some, None}
 use Rattle.ground.proofs.Tests.{lt_or_le}
 use Rattle.ground.proofs.Picks.{by_test}
 use Rattle.card.proofs.Laws.{at_end}
@@ -199,7 +199,7 @@ module _ (s : List ℕ) (short : length s < 8388608) where
       → SaysRow s e (record { lo = 0; hi = 0; next = next; cmds = l }) → SaysRow s e (record { lo = lo; hi = hi; next = next; cmds = l })
   bounds_free lo hi next l r = record { next = r.next; orders = r.orders; listed = r.listed }
 
-  row_says : (at lo hi next : ℕ) → row_at s at ≡ Leads lo hi next → next < 128
+  row_says : (at lo hi next : ℕ) → row_at s at ≡ Some (lo, hi, next) → next < 128
       → SaysRow s (entry_at s at) (record { lo = lo; hi = hi; next = next; cmds = cmds_at s (at + 4) })
   row_says at lo hi next e small =
       let w = row_whole s at lo hi next e in
@@ -210,14 +210,14 @@ module _ (s : List ℕ) (short : length s < 8388608) where
     Tells : ℕ → Type 0
     Tells at = (row_for (rows_at s at) b).next < 128 → SaysRow s (entry_at s (spot_at s at b)) (row_for (rows_at s at) b)
 
-    tells_none : (at : ℕ) → row_at s at ≡ Ends → Tells at
+    tells_none : (at : ℕ) → row_at s at ≡ None → Tells at
     unfolding Tells
     tells_none at e small =
         subst (λ (x : Row). SaysRow s (entry_at s (spot_at s at b)) x) (row_ends s at b e)
         (subst (λ (n : ℕ). SaysRow s n no_row)
         (entry_ends s (length s) (no_line s (length s) (omega arith)) ∙ sym (ap (entry_at s) (spot_ends s b at e))) no_entry)
 
-    tells_row : (at lo hi next : ℕ) → row_at s at ≡ Leads lo hi next → Tells (after_at s (at + 4)) → (t : Bool) → leb b hi ≡ t → Tells at
+    tells_row : (at lo hi next : ℕ) → row_at s at ≡ Some (lo, hi, next) → Tells (after_at s (at + 4)) → (t : Bool) → leb b hi ≡ t → Tells at
     unfolding Tells
     tells_row at lo hi next e more true k small =
         let h = leb-true b hi k in
@@ -233,8 +233,8 @@ module _ (s : List ℕ) (short : length s < 8388608) where
         (more (omega (arith, ap (λ (x : Row). x.next) r))))
 
     tells_item : (at : ℕ) (x : RowItem) → row_at s at ≡ x → Tells (after_at s (at + 4)) → Tells at
-    tells_item at Ends e more = tells_none at e
-    tells_item at (Leads lo hi next) e more = tells_row at lo hi next e more (leb b hi) refl
+    tells_item at None e more = tells_none at e
+    tells_item at (Some (lo, hi, next)) e more = tells_row at lo hi next e more (leb b hi) refl
 
     from : (n at : ℕ) → length s ≤ at + n → Tells at
     from zero at h = tells_none at (no_line s at (omega arith))

@@ -38,7 +38,8 @@ fn hop(e: usize, limit: usize, row: usize, place: usize, bank: &mut [i16; 128]) 
 
 // As far as a line's entries are of kind 0 and lead to a row below the limit. An entry that is the row's place and 64
 // stays without commands, and the next load does not wait for it; a byte's column is found before its row is known. That
-// the row is one of the image's `ride_line` and `ride_both` show, from the first row on.
+// the row is one of the image's `ride_line` and `ride_both` show, from the first row on. The line, its place and its row are no
+// struct: each call has others.
 pub fn glide(
     image: &[u32],
     limit: usize,

@@ -13,10 +13,10 @@ use Rattle.std.proofs.lemmas.Bool.Decides.{nat_tests}
 use mir.ValLaws.{to_z-of_z}
 use Rattle.card.specs.declared.Order.{Order}
 use Rattle.card.specs.declared.Order.TheVariants.{Move, Put, Stop}
-use Rattle.card.specs.declared.RowItem.TheVariants.{Leads, Ends}
+use Rattle.std.specs.Prelude.{Some, None}
 use Rattle.card.proofs.Laws.{cmds_step, at_end, move_facts, put_facts}
 use Rattle.card.proofs.Rows.{row_whole, rows_step}
-use Rattle.card.specs.declared.RowItem.{RowItem}
+use Rattle.card.specs.Decode.{RowItem}
 use Rattle.run.specs.Carry.{carry}
 
 -- ---- one command
@@ -65,12 +65,12 @@ carried (move t f ∷ l) p old cur = moved_either (reg old f) _ _ (carried l p o
 
 -- a row that is there stands whole
 abbrev pub WholeRow : List ℕ → ℕ → RowItem → Type 0
-WholeRow s at (Leads lo hi next) = at + 4 ≤ length s
-WholeRow s at Ends = Unit {0}
+WholeRow s at (Some (lo, hi, next)) = at + 4 ≤ length s
+WholeRow s at None = Unit {0}
 
 row_whole_of : (s : List ℕ) (at : ℕ) (x : RowItem) → row_at s at ≡ x → WholeRow s at x
-row_whole_of s at (Leads lo hi next) e = row_whole s at lo hi next e
-row_whole_of s at Ends e = tt
+row_whole_of s at (Some (lo, hi, next)) e = row_whole s at lo hi next e
+row_whole_of s at None e = tt
 
 pub row_whole_here : (s : List ℕ) (at : ℕ) → WholeRow s at (row_at s at)
 row_whole_here s at = row_whole_of s at (row_at s at) refl

@@ -11,7 +11,6 @@ ghost use Rattle.run.specs.Runs.{told_of, Runs};
 
 use answers::Refusal;
 use bank::Bank;
-use card::RowItem;
 use std::array;
 
 // What a field that names no register says.
@@ -61,7 +60,7 @@ fn find_row(s: &[u8], at: usize, b: u8) -> Lead
 {
     let mut i = at;
     // A loop: rows differ in length, so the next place is known only after the row's commands.
-    while let RowItem::Leads(_, hi, next) = card::read_row(s, i) {
+    while let Some((_, hi, next)) = card::read_row(s, i) {
         if b <= hi {
             return Lead {
                 next,

@@ -12,6 +12,7 @@ fn read_full<R: Read>(reader: &mut R, buf: &mut [u8]) -> io::Result<usize>
     ensures { IfOk result (λ n. n ≤ length buf.new) }
 {
     let mut at = 0;
+    // A count stands for a loop without end: how often a reader gives less than is asked is not known.
     for _ in 0..u64::MAX {
         if buf.len() <= at {
             break;

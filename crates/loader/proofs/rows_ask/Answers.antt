@@ -10,11 +10,11 @@ pub returns-then-g-m-ne0 : goal.returns-then-g-m-ne0
 returns-then-g-m-ne0 c =
     let a : Fits w64 c.list_at-g.result.reads = search rules in
     let b : Fits w64 c.args.m = search rules in
-    (_, (row_in _ _ _ (sym c.in-Leads.ensures) c.loop-g.invariant.0, asks_one _ _ _ c.list_at-g.ensures.reads a.fits b.fits c.if-g-m-ne0.true))
+    (_, (row_in _ _ _ (sym c.in-Some.ensures) c.loop-g.invariant.0, asks_one _ _ _ c.list_at-g.ensures.reads a.fits b.fits c.if-g-m-ne0.true))
 
 pub loop-g-preserved : goal.loop-g-preserved
 loop-g-preserved c =
-    let e = sym c.in-Leads.ensures in
+    let e = sym c.in-Some.ensures in
     (back_next _ _ _ e _ c.list_at-g.ensures.end c.loop-g.invariant.0, done_next _ _ _ e _ c.list_at-g.ensures.end c.loop-g.invariant.1 (asks_none _ _ _ c.list_at-g.ensures.reads c.if-g-m-ne0.false))
 
 pub returns : goal.returns
