@@ -1,8 +1,9 @@
 -- A refusal is known by its number, and none has that of OK. Assumes nothing.
-use Rattle.std.proofs.Common.{◌≡◌, ℕ, ◌<◌, List, [], ◌∷◌, get_or, sym, ◌∙◌, ap, refl, lit<}
+use Rattle.std.proofs.Common.{◌≡◌, ℕ, ◌<◌, List, [], ◌∷◌, get_or, sym, ◌∙◌, ap, refl, lit<, arith}
+use Rattle.std.specs.Prelude.{Result, Ok, Err}
 use Rattle.answers.specs.declared.Refusal.{Refusal}
 use Rattle.answers.specs.declared.Refusal.TheVariants.{PatternLong, PatternForm, PatternDeep, PatternBig, NetKind, NetShort, NetField, NetExtra, WorkSmall, Registers, Situations, OutSmall, TableForm, EmptyRead, LineLong, NoMatch, FieldAbsent, FieldBack, FieldPast, NotBytes}
-use Rattle.answers.specs.Refusals.{code_of}
+use Rattle.answers.specs.Refusals.{code_of, number_of}
 
 -- all of them, each at its number; what stands at 0 is never asked
 abbrev pub refusals : List Refusal
@@ -55,3 +56,10 @@ code_above_ok FieldAbsent = lit< tt
 code_above_ok FieldBack = lit< tt
 code_above_ok FieldPast = lit< tt
 code_above_ok NotBytes = lit< tt
+
+-- two answers that hand nothing over, of one number, are one
+pub number_one : (a b : Result (Unit {0}) Refusal) → number_of a ≡ number_of b → a ≡ b
+number_one (Ok x) (Ok y) h = refl
+number_one (Ok x) (Err f) h = absurd (omega (arith, h, code_above_ok f))
+number_one (Err e) (Ok y) h = absurd (omega (arith, h, code_above_ok e))
+number_one (Err e) (Err f) h = ap Err (code_one e f h)

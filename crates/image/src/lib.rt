@@ -110,10 +110,11 @@ fn write_image(s: &[u8], places: &[usize; 96], image: &mut [u32])
 pub fn mount(table: &[u8], image: &mut [u32]) -> Result<(), Refusal>
     ensures { Mounts table.now image.old image.new (number_of result) }
 {
-    let places = loader::judge(table)?;
+    let judged = loader::judge(table);
+    judged.verdict?;
     if image.len() < WORDS * card::sit_count(table) {
         return Err(Refusal::OutSmall);
     }
-    write_image(table, &places, image);
+    write_image(table, &judged.places, image);
     Ok(())
 }

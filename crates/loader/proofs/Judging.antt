@@ -1,9 +1,14 @@
 -- The loader's judgement: how it is made, and that there is one. Assumes nothing.
-use mathlib.Core.Path.{◌≡◌, refl, sym, ap, ◌∙◌, subst}
+use mathlib.Core.Path.{◌≡◌, refl, sym, ap, ap₂, ◌∙◌, subst}
 use mathlib.Core.Bool.{Bool, true, false}
 use mathlib.Core.List.{List}
 use Prim.Native.Nat.{ℕ}
 use native.Mathlib.Omega.{arith}
+use Rattle.std.specs.Prelude.{Result}
+use Rattle.answers.specs.Refusals.{number_of}
+use Rattle.answers.specs.declared.Refusal.{Refusal}
+use Rattle.answers.proofs.Refusals.{number_one}
+use Rattle.loader.specs.declared.Judgement.{Judgement}
 use Rattle.card.specs.Table.{Table, bytes_of, Formed}
 use Rattle.card.specs.Run.{Line, Stuck}
 use Rattle.card.specs.Judged.{Judged, taken, malformed, empty_read}
@@ -98,3 +103,9 @@ pub judges_one : {s p u : List ℕ} {a b : ℕ} → Judges s a p → Judges s b 
 judges_one {s} j k =
     let e = judged_one j.judged k.judged in
     (e, j.placed ∙ ap (λ (c : ℕ). places_for c s) e ∙ sym k.placed)
+
+-- a second judgement that meets the promise of `judge` is equal
+pub judge_one : (s : List ℕ) (a b : Judgement) → Judges s (number_of a.verdict) a.places → Judges s (number_of b.verdict) b.places → a ≡ b
+judge_one s a b j k =
+    let o = judges_one j k in
+    ap₂ (λ (x : Result (Unit {0}) Refusal) (y : List ℕ). record { verdict = x; places = y }) (number_one a.verdict b.verdict o.0) o.1

@@ -1,23 +1,23 @@
 // The loader: is a table's form right, and can a line make it read an empty register?
 #![tactic(auto)]
 
-ghost use Rattle.std.specs.Prelude.{◌≡◌, ◌==◌, ◌+◌, ◌≤◌, ◌<◌, ◌^◌, length, MatchResult};
+ghost use Rattle.std.specs.Prelude.{◌≡◌, ◌==◌, ◌+◌, ◌≤◌, ◌<◌, ◌^◌, length};
 ghost use Rattle.card.specs.Decode.{table_at};
 ghost use Rattle.card.specs.Judged.{Judged};
 ghost use Rattle.loader.specs.Judges.{Judges};
 ghost use Rattle.loader.specs.Flow.{Listed, flow, Words, Flowed, Round, Sweep, Settled, Loud, EmptyRead, Says, RowsOf, Ready, RowAsks, FieldAsks};
 ghost use Rattle.ground.specs.Bits.{bit_of};
-ghost use Rattle.answers.specs.Refusals.{code_of, number_of};
+ghost use Rattle.answers.specs.Refusals.{number_of};
 
 use answers::Refusal;
 use card::Order;
 
 // A list of commands in short: the registers that it writes, those that it reads, and the place after it.
 #[derive(Clone, Copy)]
-struct Gist {
-    writes: u64,
-    reads: u64,
-    end: usize,
+pub struct Gist {
+    pub writes: u64,
+    pub reads: u64,
+    pub end: usize,
 }
 
 // The set of one register.
@@ -172,25 +172,40 @@ fn empty_read(s: &[u8], places: &[usize; 96]) -> bool
     some_ask(s, places, &may)
 }
 
+// What the loader finds of any bytes: whether they are taken, and the places of the situations, 96 zeros where the form is wrong.
+#[derive(Clone, Copy)]
+pub struct Judgement {
+    pub verdict: Result<(), Refusal>,
+    pub places: [usize; 96],
+}
+
 // Judges any bytes, for a run that needs the places of the situations too.
-pub fn judge(table: &[u8]) -> Result<[usize; 96], Refusal>
-    ensures { MatchResult result (λ places. Judges table.now 0 places) (λ e. Judged table.now (code_of e)) }
+pub fn judge(table: &[u8]) -> Judgement
+    ensures { Judges table.now (number_of result.verdict) result.places }
 {
-    if !card::form::form_ok(table) {
-        return Err(Refusal::TableForm);
-    }
     let mut places = [0usize; 96];
+    if !card::form::form_ok(table) {
+        return Judgement {
+            verdict: Err(Refusal::TableForm),
+            places,
+        };
+    }
     card::places(table, &mut places);
     if empty_read(table, &places) {
-        return Err(Refusal::EmptyRead);
+        return Judgement {
+            verdict: Err(Refusal::EmptyRead),
+            places,
+        };
     }
-    Ok(places)
+    Judgement {
+        verdict: Ok(()),
+        places,
+    }
 }
 
 // Judges any bytes: a table that is taken, or TABLE_FORM, or EMPTY_READ.
 pub fn load(table: &[u8]) -> Result<(), Refusal>
     ensures { Judged table.now (number_of result) }
 {
-    judge(table)?;
-    Ok(())
+    judge(table).verdict
 }

@@ -41,16 +41,16 @@ pub struct Match {
 
 // A byte's row: where it leads, and the place of its commands.
 #[derive(Clone, Copy)]
-struct Lead {
-    next: u8,
-    cmds: usize,
+pub struct Lead {
+    pub next: u8,
+    pub cmds: usize,
 }
 
 // Where a run stands.
 #[derive(Clone, Copy)]
-struct Stand {
-    sit: u8,
-    bank: Bank,
+pub struct Stand {
+    pub sit: u8,
+    pub bank: Bank,
 }
 
 // The row of a byte, among the rows at a place.
@@ -140,9 +140,10 @@ pub fn run_taken(s: &[u8], places: &[usize; 96], line: &[u8]) -> Result<Match, R
 pub fn run(table: &[u8], line: &[u8]) -> Result<Match, Refusal>
     ensures { Runs table.now line.now (told_of result) }
 {
-    let places = loader::judge(table)?;
+    let judged = loader::judge(table);
+    judged.verdict?;
     if LINE_MAX < line.len() {
         return Err(Refusal::LineLong);
     }
-    run_taken(table, &places, line)
+    run_taken(table, &judged.places, line)
 }
