@@ -1,4 +1,4 @@
--- A count of the numbers that pass a test, and of the bits that are set in bytes. Assumes nothing.
+-- A count of the numbers that pass a test, and of the bits that are set in bytes and words. Assumes nothing.
 use Prim.Native.Nat.{ℕ, zero, suc, ◌+◌, ◌-◌, ◌*◌, ◌/◌, ◌%◌, ◌^◌, ◌<◌, ◌≤◌}
 use native.Mathlib.Omega.{arith}
 use native.Mathlib.Nat.{add-zero, zero-add, add_assoc, add-suc, mod-lt, div-one}
@@ -6,15 +6,13 @@ use native.Mathlib.Numerals.{one-add, add-one}
 use mathlib.Core.Path.{◌≡◌, refl, sym, ap, ap₂, ◌∙◌}
 use mathlib.Core.Bool.{Bool, true, false}
 use mathlib.Core.List.{List}
-use lib.ListN.{length, get_or, take}
-use lib.Seq.{take_all}
+use lib.ListN.{get_or, drop}
+use lib.Seq.{get_or-drop}
 use lib.Dec.{eqb, lit<}
-use lib.Count.{ones, ones_step}
+use lib.Count.{ones, ones_step, ones_cat}
 use lib.Pow.{shr-shr, shr_lt}
 use lib.Arith.{lt-one}
 use borrow.Author.Tests.{le-leb, lt-leb}
-use Rattle.std.specs.List.{sum_by}
-use Rattle.std.proofs.lemmas.List.Sums.{sum_by_more}
 use Rattle.net.specs.Count.{one, count_below, between, bit_set}
 
 -- ---- counts
@@ -67,7 +65,12 @@ ones_count (suc k) n l =
     ∙ count_ext k (λ j. eqb (n / 2 / 2 ^ j % 2) 1) (λ j. eqb (n / 2 ^ (1 + j) % 2) 1) (λ j _. ap (λ (x : ℕ). eqb (x % 2) 1) (shr-shr n 1 j)))
     ∙ sym (count_front k (λ j. eqb (n / 2 ^ j % 2) 1))
 
--- ---- the bits of bytes
+-- ---- eight bytes as a word
+
+-- the bits set in the first m bytes
+ones_sum : ℕ → List ℕ → ℕ
+ones_sum zero l = 0
+ones_sum (suc m) l = ones_sum m l + ones (get_or l m 0)
 
 module _ (l : List ℕ) (bytes : (i : ℕ) → get_or l i 0 < 256) where
   byte_bits : (m : ℕ) → count_below 8 (λ j. bit_set l (m * 8 + j)) ≡ ones (get_or l m 0)
@@ -78,19 +81,47 @@ module _ (l : List ℕ) (bytes : (i : ℕ) → get_or l i 0 < 256) where
       ap₂ (λ (x y : ℕ). eqb (get_or l x 0 / 2 ^ y % 2) 1) q r)
       ∙ sym (ones_count 8 (get_or l m 0) (bytes m))
 
-  first_bits : (m : ℕ) → m ≤ length l → count_below (m * 8) (bit_set l) ≡ sum_by ones (take m l)
-  unfolding count_below
-  first_bits zero h = refl
-  first_bits (suc m) h =
+  list_bits : (m : ℕ) → count_below (m * 8) (bit_set l) ≡ ones_sum m l
+  unfolding count_below ones_sum
+  list_bits zero = refl
+  list_bits (suc m) =
       let e : suc m * 8 ≡ m * 8 + 8 = omega arith in
       ap (λ (x : ℕ). count_below x (bit_set l)) e
       ∙ count_split (m * 8) 8 (bit_set l)
-      ∙ ap₂ ◌+◌ (first_bits m (omega arith)) (byte_bits m)
-      ∙ sym (ap (λ (k : ℕ). sum_by ones (take k l)) (sym (add-one m)) ∙ sum_by_more ones l m 0 (omega arith))
+      ∙ ap₂ ◌+◌ (list_bits m) (byte_bits m)
 
-  -- the 32 bytes of a mask
-  pub mask_bits : length l ≡ 32 → sum_by ones l ≡ count_below 256 (bit_set l)
-  mask_bits h = ap (sum_by ones) (sym (take_all 32 l (omega arith))) ∙ sym (first_bits 32 (omega arith))
+module _ (s : List ℕ) (bytes : (i : ℕ) → get_or s i 0 < 256) where
+  cat : (x i : ℕ) → ones (x * 256 + get_or s i 0) ≡ ones x + ones (get_or s i 0)
+  cat x i = ones_cat 8 x (get_or s i 0) (bytes i)
+
+  pub word_ones : (at : ℕ) →
+      ones (((((((get_or s at 0 * 256 + get_or s (at + 1) 0) * 256 + get_or s (at + 2) 0) * 256 + get_or s (at + 3) 0) * 256 + get_or s (at + 4) 0) * 256
+      + get_or s (at + 5) 0) * 256 + get_or s (at + 6) 0) * 256 + get_or s (at + 7) 0) ≡ count_below 64 (bit_set (drop at s))
+  unfolding ones_sum
+  word_ones at =
+      let e : ones_sum 8 (drop at s) ≡ count_below 64 (bit_set (drop at s)) = sym (list_bits (drop at s) (λ i. rw (get_or-drop at s i 0) (bytes (at + i))) 8) in
+      rw (← e) (simp (cat, zero-add, add-zero, get_or-drop))
+
+-- ---- four words of a mask
+
+module _ (l : List ℕ) where
+  part : (b : ℕ) → b % 8 ≡ 0 → count_below 64 (λ j. bit_set l (b + j)) ≡ count_below 64 (bit_set (drop (b / 8) l))
+  part b z = count_ext 64 _ _ (λ j k.
+      let q : (b + j) / 8 ≡ b / 8 + j / 8 = omega arith in
+      let r : (b + j) % 8 ≡ j % 8 = omega arith in
+      ap₂ (λ (x y : ℕ). eqb (get_or l x 0 / 2 ^ y % 2) 1) q r
+      ∙ ap (λ (x : ℕ). eqb (x / 2 ^ (j % 8) % 2) 1) (sym (get_or-drop (b / 8) l (j / 8) 0)))
+
+  pub mask_words :
+      count_below 64 (bit_set (drop 0 l)) + count_below 64 (bit_set (drop 8 l)) + count_below 64 (bit_set (drop 16 l)) + count_below 64 (bit_set (drop 24 l))
+      ≡ count_below 256 (bit_set l)
+  mask_words =
+      let p = bit_set l in
+      let a : count_below 64 p ≡ count_below 64 (bit_set (drop 0 l)) = count_ext 64 p (λ j. p (0 + j)) (λ j _. ap p (sym (zero-add j))) ∙ part 0 refl in
+      let b : count_below 128 p ≡ count_below 64 p + count_below 64 (λ j. p (64 + j)) = count_split 64 64 p in
+      let c : count_below 192 p ≡ count_below 128 p + count_below 64 (λ j. p (128 + j)) = count_split 128 64 p in
+      let d : count_below 256 p ≡ count_below 192 p + count_below 64 (λ j. p (192 + j)) = count_split 192 64 p in
+      omega (arith, a, b, c, d, part 64 refl, part 128 refl, part 192 refl)
 
 -- ---- a range
 
