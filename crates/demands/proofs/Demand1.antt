@@ -14,7 +14,9 @@ use Rattle.build.specs.declared.Built.{Built}
 use Rattle.build.proofs.Refuses as refuses
 use Rattle.pattern.specs.Maker.{Given, given, maker, judged}
 use Rattle.pattern.specs.Reader.{Res, ok, form, deep, alts, read}
-use Rattle.pattern.specs.Made.{Made}
+use Rattle.pattern.specs.Made.{made_of}
+use Rattle.pattern.specs.declared.Fault.{Fault}
+use Rattle.pattern.proofs.One.{made_one}
 
 -- a choice by a test keeps what both sides keep
 either : {A : Type 0} (P : A → Type 0) (c : Bool) {x y : A} → P x → P y → P (pick c x y)
@@ -36,8 +38,9 @@ pattern_keeps text out = either (Kept out) _ (λ _. refl) (by (read text alts 0 
     by (form q) = λ _. refl
     by (deep q) = λ _. refl
 
-pub pattern_one : (text out : List ℕ) (a b : Made) (u v : List ℕ) → given a u ≡ maker text out → given b v ≡ maker text out → (a ≡ b) × (u ≡ v)
-pattern_one text out a b u v p q = let e = p ∙ sym q in (ap (λ g. g.answer) e, ap (λ g. g.after) e)
+-- a second result and output that meet the promise of `pattern` are equal
+pub pattern_one : (text out : List ℕ) (a b : Result ℕ Fault) (u v : List ℕ) → given (made_of a) u ≡ maker text out → given (made_of b) v ≡ maker text out → (a ≡ b) × (u ≡ v)
+pattern_one text out a b u v p q = let e = p ∙ sym q in (made_one a b (ap (λ g. g.answer) e), ap (λ g. g.after) e)
 
 -- ---- build
 

@@ -2,6 +2,7 @@ pub mod Bytes
 pub mod Words
 pub mod SetSteps
 pub mod Masks
+pub mod One
 pub mod Laws
 pub mod Sums
 pub mod Steps

@@ -1,5 +1,5 @@
 -- The steps of a set, as the code takes them. Assumes nothing.
-use Rattle.std.proofs.Common.{◌≡◌, ℕ, ◌+◌, ◌-◌, ◌≤◌, ◌<◌, Bool, true, false, ◌||◌, List, [], ◌∷◌, ◌++◌, Option, Some, None, length, get_or, take, drop, refl, sym, ap, ◌∙◌, arith, add-one, drop-cons, drop_of_length-le, append-nil}
+use Rattle.std.proofs.Common.{◌≡◌, ℕ, ◌+◌, ◌-◌, ◌≤◌, ◌<◌, Bool, true, false, ◌||◌, List, [], ◌∷◌, ◌++◌, Option, Some, None, length, get_or, take, drop, refl, sym, ap, ◌∙◌, arith, add-one, drop-cons, drop_of_length-le}
 use Rattle.ground.specs.Bits.{flag}
 use Rattle.pattern.specs.Sets as sets
 use Rattle.pattern.specs.Sets.{Item, Step, Named, lists, listed, names, seek, set_on, after_name, gained, class_of, onward}
@@ -35,6 +35,10 @@ shown_more m m' xs x h l g = record { right = λ b q. let r : b < length m = ome
     join false true = refl
     join false false = refl
 
+-- the marks after the byte at i, if it shows an item to be complete
+pub shown_gained : {m m' : List ℕ} {g : List Item} (xs : List Item) → Shown m xs → (x : sets_item.Item) → length m' ≡ length m → items_of (Some x) ≡ g → ((b : ℕ) → b < length m → get_or m' b 0 ≡ raised (lists b (item_of x)) (get_or m b 0)) → Shown m' (xs ++ g)
+shown_gained {m} {m'} xs h x l e g = rw (← e) (shown_more m m' xs (item_of x) h l g)
+
 -- a reading of a set from a place on has come to i: the answer is the answer from here, after some items, which the marks show
 pub record Come (s : List ℕ) (from i : ℕ) (st : Stand) (m : List ℕ) : Type 0 where
   pub sound : Sound i st
@@ -50,12 +54,6 @@ module _ {s : List ℕ} {from i : ℕ} {st : Stand} {m : List ℕ} (a : Come s f
   -- the items after the byte at i
   abbrev pub more : List Item
   more = a.items ++ gained (stands s i st) (get_or s i 0)
-
-  pub shown_gained : (m' : List ℕ) (x : sets_item.Item) → length m' ≡ length m → items_of (Some x) ≡ gained (stands s i st) (get_or s i 0) → ((b : ℕ) → b < length m → get_or m' b 0 ≡ raised (lists b (item_of x)) (get_or m b 0)) → Shown m' more
-  shown_gained m' x l e g = rw (← e) (shown_more m m' a.items (item_of x) a.shown l g)
-
-  pub shown_kept : [] ≡ gained (stands s i st) (get_or s i 0) → Shown m more
-  shown_kept e = rw (← e) (rw append-nil a.shown)
 
   module _ (h : i < length s) where
     come : (r : Option Stand) → Stepped s i (set_on (stands s i st) (get_or s i 0)) r → sets.scan (drop from s) from sets.fresh [] ≡ onward (leads s (i + 1) r) (sets.scan (drop (i + 1) s)) i more

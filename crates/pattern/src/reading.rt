@@ -100,8 +100,8 @@ impl Atom {
     }
 }
 
-// The atom there, if it is no group, and the place after it. Inlined, as are `sequence` and `repeated`: an open group then asks for
-// two frames on the stack.
+// The atom there, if it is no group, and the place after it. Inlined, as are `sequence`, `repeated` and `atomic`: an open group then
+// asks for one frame on the stack.
 #[tactic(auto, using(std::proofs::lemmas::Bool::Decides::nat_tests), unfolding(crate::specs::Reader::single, crate::specs::Measured::measured))]
 #[inline(always)]
 pub fn lone(s: &[u8], at: usize) -> Result<(usize, Atom), Fault>
@@ -182,6 +182,7 @@ pub fn repeated(s: &[u8], at: usize, depth: usize) -> Read
 
 // An atom: a group, or one that is none. What it asks `repeated` shows.
 #[cycle(alternatives_atomic_repeated_sequence)]
+#[inline(always)]
 pub fn atomic(s: &[u8], at: usize, depth: usize) -> Read
     requires { (at ≤ length s.now) × (depth ≤ 16) × (length s.now ≤ 255) }
     ensures { result ≡ measured (read s.now atom depth at) }

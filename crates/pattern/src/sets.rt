@@ -206,10 +206,23 @@ fn mark_item(x: Item, marks: &mut [u8])
     requires { length marks.old ≤ 256 }
     ensures { (b : ℕ) → b < length marks.old → get_or marks.new b 0 ≡ raised (lists b (item_of x)) (get_or marks.old b 0) }
 {
+    // Each mark is written, hit or not: that asks for no branch.
     for (b, mark) in marks.iter_mut().enumerate() {
-        if has(x, b as u8) {
-            *mark = 1;
-        }
+        let hit = has(x, b as u8);
+        *mark = if hit { 1 } else { *mark };
+    }
+}
+
+// The item that the byte at i shows to be complete is marked. Where no marks are lent, as when a set is measured, none is looked for.
+fn mark_at(s: &[u8], i: usize, st: Stand, marks: &mut [u8])
+    requires { (i < length s.now) × Sound i st × (length marks.old ≤ 256) }
+    ensures { (xs : List steps.Item) → Shown marks.old xs → Shown marks.new (xs ++ gained (stands s.now i st) (get_or s.now i 0)) }
+{
+    if marks.is_empty() {
+        return;
+    }
+    if let Some(x) = item_at(s, i, st) {
+        mark_item(x, marks);
     }
 }
 
@@ -224,9 +237,7 @@ fn scan(s: &[u8], from: usize, marks: &mut [u8]) -> Result<usize, usize>
 {
     let mut st = Stand::Fresh;
     for i in from..s.len() {
-        if let Some(x) = item_at(s, i, st) {
-            mark_item(x, marks);
-        }
+        mark_at(s, i, st, marks);
         let Some(next) = step_on(s, i, st) else {
             return Err(i);
         };

@@ -7,10 +7,11 @@ ghost use Rattle.net.specs.File.{rec_bytes};
 ghost use Rattle.pattern.specs.Pat.{start_at};
 ghost use Rattle.pattern.specs.Sets.{octet, octets};
 ghost use Rattle.pattern.specs.Reader.{read, set_at, alts, seq, piece, atom};
+ghost use Rattle.pattern.specs.Measured.{measured};
 ghost use Rattle.pattern.specs.Atoms.{Ready, bits_of, record_of};
 ghost use Rattle.pattern.specs.Writing.{Room, coded, shown, filed};
 
-use crate::reading::{Atom, GROUPS, Sum, alternatives, atomic, lone, repeated, sequence};
+use crate::reading::{Atom, GROUPS, Read, Sum, alternatives, atomic, lone, repeated, sequence};
 use crate::sets::mark_set;
 use crate::text::{Repeat, byte_at, repeat_of, stops_at};
 
@@ -118,6 +119,15 @@ fn put_atom(s: &[u8], at: usize, a: Atom, out: &mut [u8], o: usize, next: usize)
     }
 }
 
+// A sequence as it was measured, by a call of its own: what is inlined would stand in the frame of each open group's writer.
+#[inline(never)]
+fn sequence_there(s: &[u8], at: usize, depth: usize) -> Read
+    requires { (at ≤ length s.now) × (depth ≤ 16) × (length s.now ≤ 255) }
+    ensures { result ≡ measured (read s.now seq depth at) }
+{
+    sequence(s, at, depth)
+}
+
 // Here and below: what a writer is given is no struct, since each call has another place, depth, number and follower.
 // Alternatives: the first record has number n and stands at o, and f is what follows. They are measured as a whole first: so none is
 // refused in the loop, and `last` tells whether records are left.
@@ -143,7 +153,7 @@ fn emit_alternatives(
     let mut p = o;
     // A loop: alternatives differ in length, so the next place is known only after the alternative.
     loop {
-        let Ok((end, more)) = sequence(s, i, depth) else {
+        let Ok((end, more)) = sequence_there(s, i, depth) else {
             return p;
         };
         if byte_at(s, end) != Some(b'|') {

@@ -18,56 +18,56 @@ pub emit_alternatives-overflow_add-last : goal.emit_alternatives-overflow_add-la
 emit_alternatives-overflow_add-last t c =
     let w = sent_below (sent_none c.args.s.now alts c.args.depth c.args.at c.args.n c.args.f c.args.o c.args.out.now _ c.requires.0 c.in-Ok.ensures refl c.requires.3) in omega arith
 
-pub emit_alternatives-returns-in_default-sequence : goal.emit_alternatives-returns-in_default-sequence
-emit_alternatives-returns-in_default-sequence t c =
+pub emit_alternatives-returns-in_default-sequence_there : goal.emit_alternatives-returns-in_default-sequence_there
+emit_alternatives-returns-in_default-sequence_there t c =
     let a = c.loop-end.invariant in
-    absurd (sent_whole a (alts_refused c.args.s.now c.args.depth c.loop-end.i a.within c.in_default-sequence.ensures))
+    absurd (sent_whole a (alts_refused c.args.s.now c.args.depth c.loop-end.i a.within c.in_default-sequence_there.ensures))
 
 pub emit_alternatives-emit_sequence-requires : goal.emit_alternatives-emit_sequence-requires
 emit_alternatives-emit_sequence-requires t c =
     let a = c.loop-end.invariant in
     let no = byte_is_not c.byte_at.result 124 (omega arith) c.byte_at.ensures c.if-ne.ensures in
-    let g = far c.args.s.now c.args.depth c.loop-end.i a.within seq c.in-Ok-sequence.ensures in
-    (omega arith, (a.within, c.requires.1, c.requires.2, alts_last a c.in-Ok-sequence.ensures no))
+    let g = far c.args.s.now c.args.depth c.loop-end.i a.within seq c.in-Ok-sequence_there.ensures in
+    (omega arith, (a.within, c.requires.1, c.requires.2, alts_last a c.in-Ok-sequence_there.ensures no))
 
 pub emit_alternatives-returns-then-ne : goal.emit_alternatives-returns-then-ne
 emit_alternatives-returns-then-ne t c =
     let no = byte_is_not c.byte_at.result 124 (omega arith) c.byte_at.ensures c.if-ne.ensures in
-    alts_end c.loop-end.invariant c.in-Ok-sequence.ensures no _ _ c.emit_sequence.ensures
+    alts_end c.loop-end.invariant c.in-Ok-sequence_there.ensures no _ _ c.emit_sequence.ensures
 
 pub emit_alternatives-overflow_add-next-in-loop-end : goal.emit_alternatives-overflow_add-next-in-loop-end
 emit_alternatives-overflow_add-next-in-loop-end t c =
     let b = byte_is c.byte_at.result 124 (omega arith) c.byte_at.ensures c.if-ne.ensures in
-    let w = sent_below c.loop-end.invariant in let u = alts_next c.loop-end.invariant c.in-Ok-sequence.ensures b in omega arith
+    let w = sent_below c.loop-end.invariant in let u = alts_next c.loop-end.invariant c.in-Ok-sequence_there.ensures b in omega arith
 
 pub emit_alternatives-overflow_sub-last : goal.emit_alternatives-overflow_sub-last
 emit_alternatives-overflow_sub-last t c =
     let b = byte_is c.byte_at.result 124 (omega arith) c.byte_at.ensures c.if-ne.ensures in
-    alts_next c.loop-end.invariant c.in-Ok-sequence.ensures b
+    alts_next c.loop-end.invariant c.in-Ok-sequence_there.ensures b
 
 pub emit_alternatives-put_fork-a-requires : goal.emit_alternatives-put_fork-a-requires
 emit_alternatives-put_fork-a-requires t c =
     let b = byte_is c.byte_at.result 124 (omega arith) c.byte_at.ensures c.if-ne.ensures in
-    alts_fork c.loop-end.invariant c.in-Ok-sequence.ensures b _ _ c.start_at-x.ensures c.start_at-y.ensures
+    alts_fork c.loop-end.invariant c.in-Ok-sequence_there.ensures b _ _ c.start_at-x.ensures c.start_at-y.ensures
 
 pub emit_alternatives-emit_sequence-p-requires : goal.emit_alternatives-emit_sequence-p-requires
 emit_alternatives-emit_sequence-p-requires t c =
     let a = c.loop-end.invariant in
     let b = byte_is c.byte_at.result 124 (omega arith) c.byte_at.ensures c.if-ne.ensures in
-    let g = far c.args.s.now c.args.depth c.loop-end.i a.within seq c.in-Ok-sequence.ensures in
-    (omega arith, (a.within, c.requires.1, c.requires.2, alts_room a c.in-Ok-sequence.ensures b _ _ c.start_at-x.ensures c.start_at-y.ensures _ _ c.put_fork-a.ensures))
+    let g = far c.args.s.now c.args.depth c.loop-end.i a.within seq c.in-Ok-sequence_there.ensures in
+    (omega arith, (a.within, c.requires.1, c.requires.2, alts_room a c.in-Ok-sequence_there.ensures b _ _ c.start_at-x.ensures c.start_at-y.ensures _ _ c.put_fork-a.ensures))
 
 pub emit_alternatives-loop-end-smaller : goal.emit_alternatives-loop-end-smaller
 emit_alternatives-loop-end-smaller t c =
     let a = c.loop-end.invariant in
     let b = byte_is c.byte_at.result 124 (omega arith) c.byte_at.ensures c.if-ne.ensures in
-    let g = far c.args.s.now c.args.depth c.loop-end.i a.within seq c.in-Ok-sequence.ensures in
-    let w = byte_of c.args.s.now c.in-Ok-sequence.end 124 (omega arith) b in omega arith
+    let g = far c.args.s.now c.args.depth c.loop-end.i a.within seq c.in-Ok-sequence_there.ensures in
+    let w = byte_of c.args.s.now c.in-Ok-sequence_there.end 124 (omega arith) b in omega arith
 
 pub emit_alternatives-loop-end-preserved : goal.emit_alternatives-loop-end-preserved
 emit_alternatives-loop-end-preserved t c =
     let b = byte_is c.byte_at.result 124 (omega arith) c.byte_at.ensures c.if-ne.ensures in
-    alts_sent c.loop-end.invariant c.in-Ok-sequence.ensures b _ _ c.start_at-x.ensures c.start_at-y.ensures _ _ c.put_fork-a.ensures _ _ c.emit_sequence-p.ensures
+    alts_sent c.loop-end.invariant c.in-Ok-sequence_there.ensures b _ _ c.start_at-x.ensures c.start_at-y.ensures _ _ c.put_fork-a.ensures _ _ c.emit_sequence-p.ensures
 
 pub emit_atomic-returns-in_default : goal.emit_atomic-returns-in_default
 emit_atomic-returns-in_default t c =
