@@ -17,7 +17,7 @@ ghost use Rattle.build.specs.Writing.{row_of, Does, alike_deeds, net_in, all_in,
 ghost use Rattle.build.specs.Build.{answered, Makes, Attempts, Builds};
 
 use answers::Refusal;
-use orders::{Order, Orders};
+pub use orders::{Order, Orders};
 
 mod orders;
 
@@ -69,9 +69,9 @@ fn commands_of(fresh: u8, regs: &[u8; 128], n: usize) -> Orders
 
 // What a byte does: the number of the next situation, and the commands.
 #[derive(Clone, Copy, PartialEq)]
-struct Deed {
-    next: u8,
-    orders: Orders,
+pub struct Deed {
+    pub next: u8,
+    pub orders: Orders,
 }
 
 // ---- writing
@@ -140,9 +140,9 @@ impl Pen<'_> {
 
 // The row that is open: its first byte, and what its bytes do.
 #[derive(Clone, Copy)]
-struct Open {
-    lo: u8,
-    deed: Deed,
+pub struct Open {
+    pub lo: u8,
+    pub deed: Deed,
 }
 
 // ---- situations

@@ -27,20 +27,20 @@ pub struct Fault {
 
 // What the HEAD says.
 #[derive(Clone, Copy)]
-struct Head {
-    tags: usize,
-    regs: usize,
-    sits: usize,
+pub struct Head {
+    pub tags: usize,
+    pub regs: usize,
+    pub sits: usize,
 }
 
 // Where a pass stands: the place; how many situations have begun; how many bytes the rows of the last one cover, which is
 // the byte that its next row starts with; and the least target that the next command may have.
 #[derive(Clone, Copy)]
-struct Cursor {
-    at: usize,
-    begun: usize,
-    lo: usize,
-    low: usize,
+pub struct Cursor {
+    pub at: usize,
+    pub begun: usize,
+    pub lo: usize,
+    pub low: usize,
 }
 
 const EDITION: u8 = 1;
